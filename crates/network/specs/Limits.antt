@@ -1,0 +1,26 @@
+-- Every limit of a consignment, once; `src/limits.rt` has the same numbers for the code.
+use Prim.Native.Nat.{ℕ}
+
+-- nodes of a network, from 1
+abbrev pub max-nodes : ℕ
+max-nodes = 200
+
+-- arcs of a network, from 0
+abbrev pub max-arcs : ℕ
+max-arcs = 1000
+
+-- distance of a node's stock from zero
+abbrev pub max-stock : ℕ
+max-stock = 1000000
+
+-- least and most of an arc
+abbrev pub max-most : ℕ
+max-most = 1000
+
+-- distance of a cost from zero
+abbrev pub max-cost : ℕ
+max-cost = 1000
+
+-- bytes of a text
+abbrev pub max-text : ℕ
+max-text = 65536
