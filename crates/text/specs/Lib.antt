@@ -1,0 +1,4 @@
+pub mod Consignment
+pub mod Refused
+pub mod Reader
+pub mod Drafts
