@@ -39,7 +39,7 @@ le-test h = grind (arith, ints)
 digit-is : (b : ℕ) → In 48 57 b → asciiDigit b ≡ true
 digit-is b h = grind (arith, tells)
 
-own : Numerals All-digits (continued 0)
+pub own : Numerals All-digits (continued 0)
 own = numerals-by-fold All-digits tells-by-index continued (search needs)
 
 -- a cond that came out as Ok

@@ -13,10 +13,6 @@ use Rattle.std.proofs.shelf.Lists.{getD-set-same, getD-set-other}
 use Rattle.std.proofs.shelf.Tests.{eq-eqb, ne-eqb, eqb-true, cond-true, cond-false, cases-bool, cases-eq, or-parts, or-from, true≢false}
 use Rattle.text.specs.Consignment.{named, stockOf, Once}
 
-pub all-more : {X : Type 0} (P : X → Type 0) (xs : List X) (x : X) → All P xs → P x → All P (xs ++ (x ∷ []))
-all-more P [] x h p = (p, tt)
-all-more P (y ∷ xs) x h p = (h .0, all-more P xs x (h .1) p)
-
 or-assoc : (a b c : Bool) → (a || (b || c)) ≡ ((a || b) || c)
 or-assoc true b c = refl
 or-assoc false b c = refl
@@ -29,7 +25,7 @@ named-more [] s i = or-nil (eqb (s .0) i)
     or-nil false = refl
 named-more (e ∷ es) s i = ap (λ b. eqb (e .0) i || b) (named-more es s i) ∙ or-assoc (eqb (e .0) i) (named es i) (eqb (s .0) i)
 
-apart : (a b : ℕ) → eqb a b ≡ false → eqb b a ≡ false
+pub apart : (a b : ℕ) → eqb a b ≡ false → eqb b a ≡ false
 apart a b h = ne-eqb b a (λ e. true≢false (sym (eq-eqb a b (sym e)) ∙ h))
 
 pub once-more : (es : List (ℕ × ℤ)) (s : ℕ × ℤ) → named es (s .0) ≡ false → Once es → Once (es ++ (s ∷ []))

@@ -11,6 +11,7 @@ use Rattle.std.specs.Joined.{joined}
 use Rattle.std.specs.Results.{ErrBy}
 use Rattle.std.specs.declared.result.Result.{Result}
 use Rattle.std.specs.declared.result.Result.the-variants.{Ok, Err}
+use Rattle.std.proofs.shelf.Elements.{all-push}
 use Rattle.std.proofs.shelf.Lists.{length-append, take-more, take-append-drop, take-take, drop-take, joined-more, nil-from-length, take-all, length-push}
 use Rattle.network.specs.Refusals.{Says-at}
 use Rattle.network.specs.declared.refusal.Refusal.{Refusal}
@@ -21,7 +22,7 @@ use Rattle.text.specs.declared.draft.Draft.{Draft}
 use Rattle.text.specs.Consignment.{netForm, stockForm, arcForm, ended, textOf, Fitting}
 use Rattle.text.specs.Refused.{Begun, Line-fault}
 use Rattle.text.specs.Drafts.{Holds, Same-sizes, Line-read, a-stock, an-arc, Line-took, Lines-took, Completed, Stopped, no-end, bad-line}
-use Rattle.text.proofs.Entries.{all-more, once-more}
+use Rattle.text.proofs.Entries.{once-more}
 
 -- the text up to the end of a line
 take-add : (p n : ℕ) (xs : List ℕ) → take (p + n) xs ≡ take p xs ++ take n (drop p xs)
@@ -63,7 +64,7 @@ begun-more text n m es es′ rs rs′ place form at (a-stock z s is fits free e 
       inside = omega (arith, at .inside);
       front = line-front text place form at ∙ ap (λ l. l ++ ended form) (b .front) ∙ ap (λ l. textOf n m es rs ++ ended l) is ∙ text-stock n m es rs s z;
       fitting = record {
-        stocked = all-more _ es s (b .fitting .stocked) fits;
+        stocked = all-push _ es s (b .fitting .stocked) fits;
         once = once-more es s free (b .fitting .once);
         ranged = b .fitting .ranged;
         passable = b .fitting .passable
@@ -78,8 +79,8 @@ begun-more text n m es es′ rs rs′ place form at (an-arc room r is range fit 
       fitting = record {
         stocked = b .fitting .stocked;
         once = b .fitting .once;
-        ranged = all-more _ rs r (b .fitting .ranged) range;
-        passable = all-more _ rs r (b .fitting .passable) fit
+        ranged = all-push _ rs r (b .fitting .ranged) range;
+        passable = all-push _ rs r (b .fitting .passable) fit
       };
       few = omega (arith, length-push rs r)
     }))

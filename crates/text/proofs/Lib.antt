@@ -3,5 +3,8 @@ pub mod Entries
 pub mod Lines
 pub mod Fronts
 pub mod First
+pub mod Judge
+pub mod Cuts
+pub mod Meets
 pub mod Settled
 pub mod Outcomes
