@@ -22,6 +22,12 @@ Accounts text bytes =
 abbrev pub Declines : List ℕ → List ℕ → Type 0
 Declines text bytes = (e : Refusal) → Refused text max-arcs max-nodes e → bytes ≡ refusalLine e
 
+-- the one or the other
+pub data Decided (text : List ℕ) : Type 0 where
+  consigned : length text ≤ max-text → (n m : ℕ) (stocks : List ℤ) (roads : List Road) → Is-consignment text n m stocks roads → Decided text
+  refused : (e : Refusal) → Refused text max-arcs max-nodes e → Decided text
+
 pub record Answers (text bytes : List ℕ) : Type 0 where
+  pub decided : Decided text
   pub accounts : Accounts text bytes
   pub declines : Declines text bytes
