@@ -17,7 +17,7 @@ use Rattle.std.proofs.shelf.Tests.{eq-eqb, eqb-true, eqb-false, cond-true, case
 use Rattle.network.specs.Refusals.{Says-at}
 use Rattle.network.specs.declared.refusal.Refusal.{Refusal}
 use Rattle.network.specs.declared.refusal.Refusal.the-variants.{Form}
-use Rattle.forms.specs.Number.{minus, figures, width, number}
+use Rattle.lines.specs.Number.{minus, figures, width, number}
 use Rattle.forms.specs.Scan.{Item, byte, num, scan, push, onward}
 use Rattle.forms.specs.Written.{written, Within, Stops, Misfit, plain, ends, Accepts, Points}
 use Rattle.forms.proofs.Numerals.{number-sound, number-complete, number-fault, numeral, stops-after, says-form, err-same}

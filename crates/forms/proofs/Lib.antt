@@ -1,7 +1,3 @@
-pub mod Fronts
-pub mod Reach
-pub mod Figures
-pub mod Signs
 pub mod Steps
 pub mod Numerals
 pub mod Accepts

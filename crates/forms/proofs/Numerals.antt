@@ -26,9 +26,9 @@ use Rattle.std.proofs.shelf.Decimals.{decimal-value, decimal-some, first-decima
 use Rattle.network.specs.declared.refusal.Refusal.{Refusal}
 use Rattle.network.specs.declared.refusal.Refusal.the-variants.{Form, Number}
 use Rattle.network.specs.Refusals.{Says-at}
-use Rattle.forms.specs.Number.{max-digits, run, judged, continued, All-digits, padded, valued, ranged, minus, unsigned, figures, width, number}
+use Rattle.lines.specs.Number.{max-digits, run, judged, continued, All-digits, padded, valued, ranged, minus, unsigned, figures, width, number}
 use Rattle.forms.specs.Written.{Stops, sign, Numeral, Padded, Number-fault, no-digit, padding, many-digits, out-of-range}
-use Rattle.forms.proofs.Figures.{front-digits}
+use Rattle.lines.proofs.Figures.{front-digits}
 
 pub test-le : {a b : ℤ} → leZ a b ≡ true → a ≤ℤ b
 test-le h = grind (arith, ints)

@@ -14,7 +14,7 @@ use Rattle.std.proofs.shelf.Tests.{eq-eqb, cond-true}
 use Rattle.std.proofs.shelf.Lists.{take-rest}
 use Rattle.std.proofs.shelf.Parts.{first-rest}
 use Rattle.network.specs.declared.refusal.Refusal.{Refusal}
-use Rattle.forms.specs.Number.{number, width}
+use Rattle.lines.specs.Number.{number, width}
 use Rattle.forms.specs.Scan.{Item, byte, num, scan, push, onward, pushes, Reads, Scanned, by}
 
 -- one item

@@ -10,7 +10,7 @@ use Rattle.std.specs.declared.result.Result.{Result}
 use Rattle.std.specs.declared.result.Result.the-variants.{Ok, Err}
 use Rattle.network.specs.declared.refusal.Refusal.{Refusal}
 use Rattle.network.specs.declared.refusal.Refusal.the-variants.{Form}
-use Rattle.forms.specs.Number.{number, width}
+use Rattle.lines.specs.Number.{number, width}
 
 -- an item of a form: this byte, or a number from one bound to another
 pub data Item : Type 0 where

@@ -12,7 +12,7 @@ use Rattle.std.specs.Written.{signed}
 use Rattle.std.specs.declared.result.Result.the-variants.{Ok, Err}
 use Rattle.network.specs.Refusals.{Says-at}
 use Rattle.network.specs.declared.refusal.Refusal.{Refusal}
-use Rattle.forms.specs.Number.{max-digits, continued, All-digits, minus, valued}
+use Rattle.lines.specs.Number.{max-digits, continued, All-digits, minus, valued}
 use Rattle.forms.specs.Scan.{Item, byte, num, scan}
 
 -- the form with these numbers written in their places

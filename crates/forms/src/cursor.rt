@@ -8,9 +8,9 @@ ghost use Rattle.std.specs.Vec.{made};
 ghost use Rattle.forms.specs.Form.{pair, cost as rate};
 ghost use Rattle.forms.specs.Scan.{scan, byte as mark, num, Reads, by, none, one, both, natural as whole, naturals as wholes};
 
-use crate::number::number_at;
+use lines::number::number_at;
 use crate::rest::Cursor;
-use crate::rest::Range;
+use lines::number::Range;
 use network::limits::MAX_COST;
 use network::refusal::Refusal;
 

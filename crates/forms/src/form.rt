@@ -11,7 +11,7 @@ ghost use Rattle.forms.specs.Scan.{Scanned, by, naturals};
 ghost use Rattle.forms.specs.Written.{Accepts, Points, plain};
 
 use crate::rest::Cursor;
-use crate::rest::Range;
+use lines::number::Range;
 use network::limits::MAX_ARCS;
 use network::limits::MAX_MOST;
 use network::limits::MAX_NODES;

@@ -1,7 +1,4 @@
-// The forms of the carriage text: lines, words, numbers, and the three forms that a line can have.
+// The three forms that a line can have, read item by item.
 pub mod cursor;
 pub mod form;
-pub mod line;
-pub mod number;
 pub mod rest;
-pub mod word;

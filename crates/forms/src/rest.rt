@@ -10,10 +10,3 @@ pub struct Cursor<'a> {
     pub place: usize,
     ghost fits: { place + length (now bytes) < 2 ^ 63 },
 }
-
-/// The least and the greatest that a number may be.
-#[derive(Clone, Copy)]
-pub struct Range {
-    pub low: i32,
-    pub high: i32,
-}

@@ -19,8 +19,8 @@ use Rattle.std.proofs.shelf.Signed.{ints}
 use Rattle.network.specs.Limits.{max-nodes, max-arcs, max-stock, max-most, max-cost}
 use Rattle.network.specs.Roads.{Near, Ranged}
 use Rattle.network.specs.declared.road.Road.{Road}
-use Rattle.forms.specs.Line.{Line-at, No-line}
-use Rattle.forms.specs.Number.{All-digits}
+use Rattle.lines.specs.Line.{Line-at, No-line}
+use Rattle.lines.specs.Number.{All-digits}
 use Rattle.forms.proofs.Numerals.{own}
 use Rattle.text.specs.Consignment.{netForm, stockForm, arcForm, paired, ended, Sized, Stocked}
 

@@ -12,11 +12,11 @@ use Rattle.network.specs.Refusals.{Says-at}
 use Rattle.network.specs.declared.refusal.Refusal.{Refusal}
 use Rattle.network.specs.declared.road.Road.{Road}
 use Rattle.forms.specs.Form.{netItems}
-use Rattle.forms.specs.Line.{Line-at}
+use Rattle.lines.specs.Line.{Line-at}
 use Rattle.forms.specs.Scan.{Scanned, by, naturals}
-use Rattle.forms.specs.Word.{spelt, furthest}
-use Rattle.forms.specs.declared.word.Word.{Word}
-use Rattle.forms.specs.declared.word.Word.the-variants.{Net}
+use Rattle.lines.specs.Word.{spelt, furthest}
+use Rattle.lines.specs.declared.word.Word.{Word}
+use Rattle.lines.specs.declared.word.Word.the-variants.{Net}
 use Rattle.text.specs.Consignment.{netForm, textOf, ended, Sized}
 use Rattle.text.specs.Refused.{Begun, Faulty, First-fault, no-word, bad-net}
 use Rattle.text.specs.Reader.{First-read}

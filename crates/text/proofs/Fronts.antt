@@ -17,7 +17,7 @@ use Rattle.network.specs.Refusals.{Says-at}
 use Rattle.network.specs.declared.refusal.Refusal.{Refusal}
 use Rattle.network.specs.declared.refusal.Refusal.the-variants.{Form}
 use Rattle.network.specs.declared.road.Road.{Road}
-use Rattle.forms.specs.Line.{Line-at, No-line}
+use Rattle.lines.specs.Line.{Line-at, No-line}
 use Rattle.text.specs.declared.draft.Draft.{Draft}
 use Rattle.text.specs.Consignment.{netForm, stockForm, arcForm, ended, textOf, Fitting}
 use Rattle.text.specs.Refused.{Begun, Line-fault}

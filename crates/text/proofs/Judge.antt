@@ -25,10 +25,10 @@ use Rattle.network.specs.declared.road.Road.{Road}
 use Rattle.network.proofs.Refusals.{says-at-one}
 use Rattle.forms.specs.Form.{netItems, stockItems, arcItems, stockNumbers, roadNumbers}
 use Rattle.forms.specs.Scan.{scan, naturals}
-use Rattle.forms.specs.Word.{spelt, agree, furthest}
+use Rattle.lines.specs.Word.{spelt, agree, furthest}
 use Rattle.forms.specs.Written.{Within}
-use Rattle.forms.specs.declared.word.Word.{Word}
-use Rattle.forms.specs.declared.word.Word.the-variants.{Net, Stock, Arc}
+use Rattle.lines.specs.declared.word.Word.{Word}
+use Rattle.lines.specs.declared.word.Word.the-variants.{Net, Stock, Arc}
 use Rattle.forms.proofs.Accepts.{complete}
 use Rattle.forms.proofs.Plain.{net-plain, stock-plain, arc-plain}
 use Rattle.text.specs.Consignment.{netForm, stockForm, arcForm, Sized, Stocked, named}

@@ -18,9 +18,9 @@ use Rattle.network.specs.Refusals.{Says-at}
 use Rattle.network.specs.declared.refusal.Refusal.{Refusal}
 use Rattle.network.specs.declared.road.Road.{Road}
 use Rattle.forms.specs.Form.{stockItems, arcItems}
-use Rattle.forms.specs.Word.{spelt, furthest}
-use Rattle.forms.specs.declared.word.Word.{Word}
-use Rattle.forms.specs.declared.word.Word.the-variants.{Net, Stock, Arc}
+use Rattle.lines.specs.Word.{spelt, furthest}
+use Rattle.lines.specs.declared.word.Word.{Word}
+use Rattle.lines.specs.declared.word.Word.the-variants.{Net, Stock, Arc}
 use Rattle.text.specs.declared.draft.Draft.{Draft}
 use Rattle.text.specs.Consignment.{named}
 use Rattle.text.specs.Refused.{openWords, No-word, Faulty, Line-fault, no-word, bad-stock, named-twice, bad-arc, impassable}

@@ -20,8 +20,8 @@ use Rattle.network.specs.declared.refusal.Refusal.{Refusal}
 use Rattle.network.specs.declared.road.Road.{Road}
 use Rattle.forms.specs.Form.{stockItems, arcItems, stockNumbers, roadNumbers}
 use Rattle.forms.specs.Scan.{scan, naturals}
-use Rattle.forms.specs.Word.{spelt}
-use Rattle.forms.specs.declared.word.Word.the-variants.{Stock, Arc}
+use Rattle.lines.specs.Word.{spelt}
+use Rattle.lines.specs.declared.word.Word.the-variants.{Stock, Arc}
 use Rattle.text.specs.Consignment.{netForm, stockForm, arcForm, ended, textOf, Sized, Stocked, Fitting, named, Once}
 use Rattle.text.specs.Refused.{Begun}
 use Rattle.text.proofs.Entries.{apart}

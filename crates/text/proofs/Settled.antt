@@ -22,7 +22,7 @@ use Rattle.network.specs.declared.refusal.Refusal.{Refusal}
 use Rattle.network.specs.declared.refusal.Refusal.the-variants.{Form, TextSize, TextRows}
 use Rattle.network.specs.declared.road.Road.{Road}
 use Rattle.network.proofs.Refusals.{says-one, says-at-one}
-use Rattle.forms.specs.Line.{Line-at, No-line}
+use Rattle.lines.specs.Line.{Line-at, No-line}
 use Rattle.forms.specs.Scan.{naturals}
 use Rattle.text.specs.declared.sizes.Sizes.{Sizes}
 use Rattle.text.specs.Consignment.{netForm, ended, Sized, Is-consignment, stockOf}

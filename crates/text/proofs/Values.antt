@@ -13,9 +13,9 @@ use Rattle.network.specs.declared.refusal.Refusal.{Refusal}
 use Rattle.network.specs.declared.road.Road.{Road}
 use Rattle.forms.specs.Form.{netItems, stockItems, arcItems, stockNumbers, roadNumbers}
 use Rattle.forms.specs.Scan.{Item, Scanned, naturals}
-use Rattle.forms.specs.Word.{spelt}
+use Rattle.lines.specs.Word.{spelt}
 use Rattle.forms.specs.Written.{written}
-use Rattle.forms.specs.declared.word.Word.the-variants.{Net, Stock, Arc}
+use Rattle.lines.specs.declared.word.Word.the-variants.{Net, Stock, Arc}
 use Rattle.forms.proofs.Accepts.{sound, complete, points}
 use Rattle.forms.proofs.Plain.{net-plain, stock-plain, arc-plain}
 use Rattle.text.specs.Consignment.{netForm, stockForm, arcForm, Sized, Stocked}

@@ -17,7 +17,7 @@ use Rattle.forms.specs.Form.{stockItems, arcItems, stockNumbers, roadNumbers}
 use Rattle.forms.specs.Scan.{Scanned}
 use Rattle.text.specs.declared.draft.Draft.{Draft}
 use Rattle.text.specs.Consignment.{stockForm, arcForm, Stocked, named, stockOf}
-use Rattle.forms.specs.Line.{Line-at, No-line}
+use Rattle.lines.specs.Line.{Line-at, No-line}
 use Rattle.text.specs.Refused.{Line-fault, Begun}
 
 -- the draft holds these stocks and roads

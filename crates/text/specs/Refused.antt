@@ -15,12 +15,12 @@ use Rattle.network.specs.Roads.{Ranged, Passable}
 use Rattle.network.specs.declared.refusal.Refusal.{Refusal}
 use Rattle.network.specs.declared.road.Road.{Road}
 use Rattle.forms.specs.Form.{netItems, stockItems, arcItems}
-use Rattle.forms.specs.Line.{Line-at, No-line}
+use Rattle.lines.specs.Line.{Line-at, No-line}
 use Rattle.forms.specs.Scan.{Item, scan}
-use Rattle.forms.specs.Word.{spelt, furthest}
+use Rattle.lines.specs.Word.{spelt, furthest}
 use Rattle.forms.specs.Written.{Misfit}
-use Rattle.forms.specs.declared.word.Word.{Word}
-use Rattle.forms.specs.declared.word.Word.the-variants.{Net, Stock, Arc}
+use Rattle.lines.specs.declared.word.Word.{Word}
+use Rattle.lines.specs.declared.word.Word.the-variants.{Net, Stock, Arc}
 use Rattle.text.specs.Consignment.{textOf, stockForm, arcForm, Sized, Stocked, Fitting, named}
 
 -- the words that may begin a line, after so many arcs of m

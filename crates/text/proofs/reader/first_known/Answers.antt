@@ -2,8 +2,8 @@ use native.Mathlib.Omega.{arith}
 use mathlib.Core.Path.{_≡_, ap, _∙_}
 use mathlib.Core.Logic.{⊎-elim}
 use mathlib.Core.List.{_++_}
-use Rattle.forms.specs.Word.{spelt}
-use Rattle.forms.specs.declared.word.Word.the-variants.{Net, Stock, Arc}
+use Rattle.lines.specs.Word.{spelt}
+use Rattle.lines.specs.declared.word.Word.the-variants.{Net, Stock, Arc}
 use Rattle.text.proofs.First.{net-line, start-is, other-first}
 use Rattle.text.proofs.reader.first_known.Needs as need
 

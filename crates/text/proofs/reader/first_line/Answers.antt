@@ -1,4 +1,4 @@
-use Rattle.forms.specs.declared.word.Word.the-variants.{Net}
+use Rattle.lines.specs.declared.word.Word.the-variants.{Net}
 use Rattle.text.proofs.First.{no-first-word}
 use Rattle.text.proofs.reader.first_line.Needs as need
 

@@ -1,4 +1,4 @@
-use Rattle.forms.specs.declared.word.Word.the-variants.{Stock, Arc}
+use Rattle.lines.specs.declared.word.Word.the-variants.{Stock, Arc}
 use Rattle.text.proofs.Lines.{closed-line}
 use Rattle.text.proofs.draft.Draft.take.Needs as need
 

@@ -2,8 +2,8 @@ use borrow.Author.Needs.{needs}
 use native.Mathlib.Omega.{arith}
 use mathlib.Core.Path.{_≡_, ap, _∙_}
 use mathlib.Core.List.{_++_}
-use Rattle.forms.specs.Word.{spelt}
-use Rattle.forms.specs.declared.word.Word.the-variants.{Net, Stock, Arc}
+use Rattle.lines.specs.Word.{spelt}
+use Rattle.lines.specs.declared.word.Word.the-variants.{Net, Stock, Arc}
 use Rattle.text.proofs.Lines.{stock-line, arc-line, closed-known, after-word}
 use Rattle.text.proofs.draft.Draft.take_known.Needs as need
 use Rattle.text.proofs.draft.Draft.take_known.Needs.{in-rest·by·in-Stock·else-self-eq0, in-rest·by·in-Arc·else-self, in-rest·by·in-Net·}

@@ -1,0 +1,4 @@
+pub mod Fronts
+pub mod Reach
+pub mod Figures
+pub mod Signs
