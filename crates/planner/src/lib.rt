@@ -1,4 +1,7 @@
 // What the program answers to a text.
+#[cfg(test)]
+mod tests;
+
 ghost use Rattle.std.specs.Of.String.{string-bytes};
 ghost use Rattle.std.specs.Vec.{made};
 ghost use Rattle.planner.specs.Answer.{Answers};
