@@ -96,12 +96,12 @@ points [] (b ∷ bs) p e h = (omega arith, says-here p e h)
 points (byte w ∷ items) [] p e h = inl (λ rest. none-byte w rest, says-here p e h)
 points (byte w ∷ items) (b ∷ bs) p e h =
     elim (eqb b w) as (λ t. eqb b w ≡ t → cond t (scan items bs (p + 1)) (Err (Form p)) ≡ Err e → Misfit (byte w ∷ items) (b ∷ bs) p e) [
-        true ↦ λ t q. inr (bs, ap (λ k. k ∷ bs) (eqb-true b w t), points items bs (p + 1) e q)
+      | true ↦ λ t q. inr (bs, ap (λ k. k ∷ bs) (eqb-true b w t), points items bs (p + 1) e q)
       | false ↦ λ t q. inl (λ rest. other-byte w b bs rest t, says-here p e q)
     ] refl h
 points (num low high ∷ items) bs p e h =
     ⊎-elim
     (λ q. inl (minus bs, figures bs, drop (width bs) bs, numeral bs, number-fault low high bs p e q))
     (λ q. let n = number-sound low high bs p (q .0) (q .1) in
-      inr (q .0, drop (width bs) bs, n .0, stops-after bs, n .1, n .2, subst (λ k. Misfit items (drop (width bs) bs) (p + k) e) (n .3) (points items (drop (width bs) bs) (p + width bs) e (q .2))))
+    inr (q .0, drop (width bs) bs, n .0, stops-after bs, n .1, n .2, subst (λ k. Misfit items (drop (width bs) bs) (p + k) e) (n .3) (points items (drop (width bs) bs) (p + width bs) e (q .2))))
     (onward-err (number low high bs p) _ e h)

@@ -104,7 +104,7 @@ run-stops : (bs : List ℕ) → Stops (drop (run bs) bs)
 run-stops [] = refl
 run-stops (b ∷ bs) =
     elim (asciiDigit b) as (λ t. asciiDigit b ≡ t → Stops (drop (cond t (1 + run bs) 0) (b ∷ bs))) [
-        true ↦ λ e. rw one-add (run-stops bs)
+      | true ↦ λ e. rw one-add (run-stops bs)
       | false ↦ λ e. e
     ] refl
 
@@ -149,9 +149,12 @@ pub number-sound : (low high : ℤ) (bs : List ℕ) (p : ℕ) (v : ℤ) → numb
     → (bs ≡ signed v ++ drop (width bs) bs) × (low ≤ℤ v) × (v ≤ℤ high) × (width bs ≡ length (signed v))
 number-sound low high bs p v h =
     let g = good (minus bs) (figures bs) low high v p h in
-    let w = signed-is (minus bs) (figures bs) low high v (front-digits (unsigned bs)) g in
-    (split bs ∙ sym (append-assoc (sign (minus bs)) (figures bs) (drop (width bs) bs)) ∙ ap (λ l. l ++ drop (width bs) bs) (sym w),
-     test-le (g .above), test-le (g .below), wide (minus bs) (unsigned bs) ∙ ap length (sym w))
+    let w = signed-is (minus bs) (figures bs) low high v (front-digits (unsigned bs)) g in (
+      split bs ∙ sym (append-assoc (sign (minus bs)) (figures bs) (drop (width bs) bs)) ∙ ap (λ l. l ++ drop (width bs) bs) (sym w),
+      test-le (g .above),
+      test-le (g .below),
+      wide (minus bs) (unsigned bs) ∙ ap length (sym w),
+    )
 
 pub number-within : (low high : ℤ) (bs : List ℕ) (p : ℕ) (v : ℤ) → number low high bs p ≡ Ok v → (low ≤ℤ v) × (v ≤ℤ high)
 number-within low high bs p v h = let s = number-sound low high bs p v h in (s .1, s .2)
@@ -166,16 +169,18 @@ run-front (d ∷ ds) tail all stop =
 number-whole : (m : Bool) (ds tail : List ℕ) (low high v : ℤ) (p : ℕ) → All-digits ds → Good m ds low high v → Stops tail
     → (number low high (sign m ++ (ds ++ tail)) p ≡ Ok v) × (drop (width (sign m ++ (ds ++ tail))) (sign m ++ (ds ++ tail)) ≡ tail)
 number-whole true ds tail low high v p all g stop =
-    let r = run-front ds tail all stop in
-    (ap (λ k. judged true (take k (ds ++ tail)) low high p) r ∙ ap (λ l. judged true l low high p) (take-at ds tail (length ds) refl) ∙ judged-good true ds low high v p g,
-     ap (λ k. drop (1 + k) (45 ∷ (ds ++ tail))) r ∙ rw one-add (drop-at ds tail (length ds) refl))
+    let r = run-front ds tail all stop in (
+      ap (λ k. judged true (take k (ds ++ tail)) low high p) r ∙ ap (λ l. judged true l low high p) (take-at ds tail (length ds) refl) ∙ judged-good true ds low high v p g,
+      ap (λ k. drop (1 + k) (45 ∷ (ds ++ tail))) r ∙ rw one-add (drop-at ds tail (length ds) refl),
+    )
 number-whole false ds tail low high v p all g stop =
     let r = run-front ds tail all stop in
     let bs = ds ++ tail in
-    let m : minus bs ≡ false = ne-eqb _ 45 (λ e. omega (arith, getD-append-left ds tail 0 0 (g .some), all 0 (g .some))) in
-    (ap (λ b. judged b (take (run (drop (cond b 1 0) bs)) (drop (cond b 1 0) bs)) low high p) m
-     ∙ ap (λ k. judged false (take k (ds ++ tail)) low high p) r ∙ ap (λ l. judged false l low high p) (take-at ds tail (length ds) refl) ∙ judged-good false ds low high v p g,
-     ap (λ b. drop (cond b 1 0 + run (drop (cond b 1 0) bs)) bs) m ∙ ap (λ k. drop (0 + k) bs) r ∙ rw zero-add (drop-at ds tail (length ds) refl))
+    let m : minus bs ≡ false = ne-eqb _ 45 (λ e. omega (arith, getD-append-left ds tail 0 0 (g .some), all 0 (g .some))) in (
+      ap (λ b. judged b (take (run (drop (cond b 1 0) bs)) (drop (cond b 1 0) bs)) low high p) m
+          ∙ ap (λ k. judged false (take k (ds ++ tail)) low high p) r ∙ ap (λ l. judged false l low high p) (take-at ds tail (length ds) refl) ∙ judged-good false ds low high v p g,
+      ap (λ b. drop (cond b 1 0 + run (drop (cond b 1 0) bs)) bs) m ∙ ap (λ k. drop (0 + k) bs) r ∙ rw zero-add (drop-at ds tail (length ds) refl),
+    )
 
 tight-zero : (n : ℕ) → n ≡ 0 → padded false (decimal n) ≡ false
 tight-zero n e = ap (λ k. padded false (decimal k)) e ∙ ap (padded false) (decimal-digit 0 (omega arith))
@@ -187,23 +192,23 @@ tight-first m n h k =
 
 good-pos : (n : ℕ) (low high : ℤ) → n < 10 ^ max-digits → leZ low (pos n) ≡ true → leZ (pos n) high ≡ true → Good false (decimal n) low high (pos n)
 good-pos n low high k a b = record {
-    some = decimal-some n (omega arith);
-    tight = ⊎-elim (λ h. tight-first false n h k) (λ h. tight-zero n (omega arith)) (cases-lt 0 n);
-    short = length-decimal-le max-digits n (omega arith) k (omega arith);
-    is = ap pos (value-decimal own n (omega arith));
-    above = a;
-    below = b;
-  }
+  some = decimal-some n (omega arith);
+  tight = ⊎-elim (λ h. tight-first false n h k) (λ h. tight-zero n (omega arith)) (cases-lt 0 n);
+  short = length-decimal-le max-digits n (omega arith) k (omega arith);
+  is = ap pos (value-decimal own n (omega arith));
+  above = a;
+  below = b;
+}
 
 good-neg : (n : ℕ) (low high : ℤ) → suc n < 10 ^ max-digits → leZ low (negsuc n) ≡ true → leZ (negsuc n) high ≡ true → Good true (decimal (suc n)) low high (negsuc n)
 good-neg n low high k a b = record {
-    some = decimal-some (suc n) (omega arith);
-    tight = tight-first true (suc n) (omega arith) k;
-    short = length-decimal-le max-digits (suc n) (omega arith) k (omega arith);
-    is = ap (λ z. negℤ (pos z)) (value-decimal own (suc n) (omega arith));
-    above = a;
-    below = b;
-  }
+  some = decimal-some (suc n) (omega arith);
+  tight = tight-first true (suc n) (omega arith) k;
+  short = length-decimal-le max-digits (suc n) (omega arith) k (omega arith);
+  is = ap (λ z. negℤ (pos z)) (value-decimal own (suc n) (omega arith));
+  above = a;
+  below = b;
+}
 
 pub number-complete : (v low high : ℤ) (tail : List ℕ) (p : ℕ) → low ≤ℤ v → v ≤ℤ high → leZ (negsuc 9999998) low ≡ true → leZ high (pos 9999999) ≡ true → Stops tail
     → (number low high (signed v ++ tail) p ≡ Ok v) × (drop (width (signed v ++ tail)) (signed v ++ tail) ≡ tail)
@@ -244,7 +249,7 @@ says-number e p h = subst (λ x. Says-at x 11 p) h (refl, refl)
 ranged-fault : (low high v : ℤ) (p : ℕ) (e : Refusal) → ranged low high p v ≡ Err e → ((low ≤ℤ v) × (v ≤ℤ high) → ⊥) × Says-at e 11 p
 ranged-fault low high v p e h =
     elim (leZ low v && leZ v high) as (λ t. (leZ low v && leZ v high) ≡ t → cond t (Ok v) (Err (Number p)) ≡ Err e → ((low ≤ℤ v) × (v ≤ℤ high) → ⊥) × Says-at e 11 p) [
-        true ↦ λ t q. absurd (let z : _≡_ {A = ℕ} 0 1 = cc in omega arith)
+      | true ↦ λ t q. absurd (let z : _≡_ {A = ℕ} 0 1 = cc in omega arith)
       | false ↦ λ t q. (outside low high v t, says-number e p (err-same {X = ℤ} (Number p) e q))
     ] refl h
 
@@ -258,13 +263,13 @@ judged-fault low high m ds p e h =
     ⊎-elim
     (λ a. no-digit (eqb-true (length ds) 0 (a .0)) (subst (λ k. Says-at e 10 k) (sign-length m p) (says-form e _ (err-same {X = ℤ} _ e (a .1)))))
     (λ a. let some = positive (length ds) (a .0) in
-      ⊎-elim
-      (λ b. padding some (padded-says m ds (b .0)) (says-form e p (err-same {X = ℤ} _ e (b .1))))
-      (λ b. ⊎-elim
-        (λ d. many-digits (not-padded m ds (b .0)) (ltb-true max-digits (length ds) (d .0)) (says-number e p (err-same {X = ℤ} _ e (d .1))))
-        (λ d. let r = ranged-fault low high (valued m (continued 0 ds)) p e (d .1) in out-of-range some (not-padded m ds (b .0)) (ltb-false max-digits (length ds) (d .0)) (r .0) (r .1))
-        (way (ltb max-digits (length ds)) _ _ e (b .1)))
-      (way (padded m ds) _ _ e (a .1)))
+    ⊎-elim
+    (λ b. padding some (padded-says m ds (b .0)) (says-form e p (err-same {X = ℤ} _ e (b .1))))
+    (λ b. ⊎-elim
+    (λ d. many-digits (not-padded m ds (b .0)) (ltb-true max-digits (length ds) (d .0)) (says-number e p (err-same {X = ℤ} _ e (d .1))))
+    (λ d. let r = ranged-fault low high (valued m (continued 0 ds)) p e (d .1) in out-of-range some (not-padded m ds (b .0)) (ltb-false max-digits (length ds) (d .0)) (r .0) (r .1))
+    (way (ltb max-digits (length ds)) _ _ e (b .1)))
+    (way (padded m ds) _ _ e (a .1)))
     (way (eqb (length ds) 0) _ _ e h)
 
 pub number-fault : (low high : ℤ) (bs : List ℕ) (p : ℕ) (e : Refusal) → number low high bs p ≡ Err e → Number-fault low high (minus bs) (figures bs) p e

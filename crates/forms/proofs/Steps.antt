@@ -45,23 +45,23 @@ pushes-ok (v ∷ vs) = ap (push v) (pushes-ok vs)
 pub then : {i₁ i₂ : List Item} {bs b₁ b₂ : List ℕ} {p p₁ p₂ : ℕ} {vs ws : List ℤ}
     → Reads i₁ bs p (Ok vs) b₁ p₁ → Reads i₂ b₁ p₁ (Ok ws) b₂ p₂ → Reads (i₁ ++ i₂) bs p (Ok (vs ++ ws)) b₂ p₂
 then {i₁} {i₂} {bs} {b₁} {b₂} {p} {p₁} {p₂} {vs} {ws} h k = record {
-    is = λ more. ap (λ l. scan l bs p) (append-assoc i₁ i₂ more) ∙ h .is (i₂ ++ more) ∙ ap (pushes vs) (k .is more) ∙ sym (pushes-append vs ws (scan more b₂ p₂))
-  }
+  is = λ more. ap (λ l. scan l bs p) (append-assoc i₁ i₂ more) ∙ h .is (i₂ ++ more) ∙ ap (pushes vs) (k .is more) ∙ sym (pushes-append vs ws (scan more b₂ p₂));
+}
 
 -- a fault after what was read
 pub fails : {i₁ i₂ : List Item} {bs b₁ b₂ : List ℕ} {p p₁ p₂ : ℕ} {vs : List ℤ} {e : Refusal}
     → Reads i₁ bs p (Ok vs) b₁ p₁ → Reads i₂ b₁ p₁ (Err e) b₂ p₂ → Reads (i₁ ++ i₂) bs p (Err e) b₂ p₂
 fails {i₁} {i₂} {bs} {b₁} {b₂} {p} {p₁} {p₂} {vs} {e} h k = record {
-    is = λ more. ap (λ l. scan l bs p) (append-assoc i₁ i₂ more) ∙ h .is (i₂ ++ more) ∙ ap (pushes vs) (k .is more) ∙ pushes-err vs e
-  }
+  is = λ more. ap (λ l. scan l bs p) (append-assoc i₁ i₂ more) ∙ h .is (i₂ ++ more) ∙ ap (pushes vs) (k .is more) ∙ pushes-err vs e;
+}
 
 -- the exit of a `?`: the fault is the form's, whatever items follow
 pub refused : {X : Type 0} (lists : X → List ℤ) (rest : List Item) {items : List Item} {bs b₁ after : List ℕ} {p p₁ to : ℕ} {e : Refusal} (r : Result X Refusal)
     → ErrBy r (λ y. y ≡ e) → Reads items bs p (Err e) b₁ p₁ → Reads (items ++ rest) bs p (by lists r) after to
 refused lists rest (Ok x) h s = absurd h
 refused lists rest {items} {bs} {b₁} {after} {p} {p₁} {to} {e} (Err y) h s = record {
-    is = λ more. ap (λ l. scan l bs p) (append-assoc items rest more) ∙ s .is (rest ++ more) ∙ ap Err (sym h)
-  }
+  is = λ more. ap (λ l. scan l bs p) (append-assoc items rest more) ∙ s .is (rest ++ more) ∙ ap Err (sym h);
+}
 
 -- the whole of a line
 pub line-fault : {X : Type 0} (lists : X → List ℤ) (rest : List Item) {items : List Item} {bs b₁ : List ℕ} {p p₁ : ℕ} {e : Refusal} (r : Result X Refusal)

@@ -7,14 +7,16 @@ ghost use lib.Signed.{_≤ℤ_};
 ghost use Rattle.std.specs.Vec.{made};
 ghost use Rattle.forms.specs.Form.{pair, cost as rate};
 ghost use Rattle.forms.specs.Scan.{scan, byte as mark, num, Reads, by, none, one, both, natural as whole, naturals as wholes};
-
-use lines::number::number_at;
 use crate::rest::Cursor;
 use lines::number::Range;
+use lines::number::number_at;
 use network::limits::MAX_COST;
 use network::refusal::Refusal;
 
-const COSTS: Range = Range { low: -(MAX_COST as i32), high: MAX_COST as i32 };
+const COSTS: Range = Range {
+    low: -(MAX_COST as i32),
+    high: MAX_COST as i32,
+};
 
 impl<'a> Cursor<'a> {
     /// Takes this byte.
@@ -47,7 +49,10 @@ impl<'a> Cursor<'a> {
         requires { ⌜ low < 2 ^ 31 ⌝ ∗ ⌜ high < 2 ^ 31 ⌝ }
         ensures { λ r. ⌜ Reads (num (pos low) (pos high) ∷ []) (now (now (self .entry) .bytes)) (now (self .entry) .place) (by whole r) (now (now (self .exit) .bytes)) (now (self .exit) .place) ⌝ }
     {
-        let value = self.number(Range { low: low as i32, high: high as i32 })?;
+        let value = self.number(Range {
+            low: low as i32,
+            high: high as i32,
+        })?;
         Ok(value as u32)
     }
 

@@ -9,7 +9,6 @@ ghost use Rattle.network.specs.Roads.{Passable};
 ghost use Rattle.forms.specs.Form.{netItems, stockItems, arcItems, stockNumbers, roadNumbers};
 ghost use Rattle.forms.specs.Scan.{Scanned, by, naturals};
 ghost use Rattle.forms.specs.Written.{Accepts, Points, plain};
-
 use crate::rest::Cursor;
 use lines::number::Range;
 use network::limits::MAX_ARCS;
@@ -19,7 +18,10 @@ use network::limits::MAX_STOCK;
 use network::refusal::Refusal;
 use network::road::Road;
 
-const STOCKS: Range = Range { low: -(MAX_STOCK as i32), high: MAX_STOCK as i32 };
+const STOCKS: Range = Range {
+    low: -(MAX_STOCK as i32),
+    high: MAX_STOCK as i32,
+};
 
 /// The numbers of nodes and arcs, `N M)`.
 pub fn net(bytes: &[u8], place: usize) -> Result<(u32, u32), Refusal>
@@ -64,7 +66,14 @@ pub fn arc(bytes: &[u8], place: usize, nodes: u32) -> Result<Road, Refusal>
     let (first, second) = rest.costs()?;
     rest.byte(b')')?;
     rest.end()?;
-    Ok(Road { tail, head, least, most, first, second })
+    Ok(Road {
+        tail,
+        head,
+        least,
+        most,
+        first,
+        second,
+    })
 }
 
 /// Whether tail and head differ and least is at most most.
@@ -82,5 +91,4 @@ pub fn forms_stand()
     ensures nets { λ _. ⌜ plain netItems ≡ true ⌝ }
     ensures stocks { λ _. ⌜ ((n : ℕ) → n ≤ max-nodes → plain (stockItems n) ≡ true) ⌝ }
     ensures arcs { λ _. ⌜ ((n : ℕ) → n ≤ max-nodes → plain (arcItems n) ≡ true) ⌝ }
-{
-}
+{}

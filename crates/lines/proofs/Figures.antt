@@ -39,7 +39,7 @@ pub front-digits : (bs : List ℕ) → All-digits (take (run bs) bs)
 front-digits [] = λ i l. absurd (omega arith)
 front-digits (b ∷ bs) =
     elim (asciiDigit b) as (λ t. asciiDigit b ≡ t → All-digits (take (cond t (1 + run bs) 0) (b ∷ bs))) [
-        true ↦ λ e. rw one-add (λ i. first-in b (take (run bs) bs) (digit-in b e) (front-digits bs) i)
+      | true ↦ λ e. rw one-add (λ i. first-in b (take (run bs) bs) (digit-in b e) (front-digits bs) i)
       | false ↦ λ e i l. absurd (omega arith)
     ] refl
 

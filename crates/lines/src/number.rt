@@ -6,7 +6,6 @@ ghost use lib.ListN.{length, take};
 ghost use Rattle.std.specs.Results.{Cases};
 ghost use Rattle.std.specs.declared.result.Result.the-variants.{Ok, Err};
 ghost use Rattle.lines.specs.Number.{max-digits, continued, run, All-digits, minus, unsigned as bare, width, valued, ranged as checked, judged as told, number};
-
 use network::refusal::Refusal;
 
 /// The least and the greatest that a number may be.

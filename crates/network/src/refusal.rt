@@ -66,7 +66,10 @@ impl Refusal {
         ensures { λ r. ⌜ r ≡ placeOf (now (self .entry)) ⌝ }
     {
         match self {
-            Refusal::Form(p) | Refusal::Number(p) | Refusal::Impassable(p) | Refusal::NamedTwice(p) => Some(*p),
+            Refusal::Form(p)
+            | Refusal::Number(p)
+            | Refusal::Impassable(p)
+            | Refusal::NamedTwice(p) => Some(*p),
             _ => None,
         }
     }

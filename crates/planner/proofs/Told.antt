@@ -33,16 +33,16 @@ same-sizes s n m h = cc
 pub accounted : (text : List ℕ) (road-row road-row′ : List Road) (stock-row stock-row′ : List ℤ) (s : Sizes) (bytes : List ℕ) → length road-row ≡ max-arcs → length stock-row ≡ max-nodes
     → Answered text road-row stock-row (Ok s) road-row′ stock-row′ → bytes ≡ accountLines (accountOf (take (s .arcs) road-row′) (take (s .nodes) stock-row′)) → Answers text bytes
 accounted text road-row road-row′ stock-row stock-row′ s bytes ea en a is = record {
-    decided = consigned (a .outcome .short) (s .nodes) (s .arcs) (a .outcome .stocks) (a .outcome .roads) (a .outcome .consignment);
-    accounts = λ n m stocks roads short c.
+  decided = consigned (a .outcome .short) (s .nodes) (s .arcs) (a .outcome .stocks) (a .outcome .roads) (a .outcome .consignment);
+  accounts = λ n m stocks roads short c.
       let few = c .sized .arcs in
       let some = c .sized .nodes in
       let t = a .accepts n m stocks roads short (omega arith) (omega arith) c in
       let z = same-sizes s n m (t .0) in
       is ∙ ap (λ k. accountLines (accountOf (take (k .arcs) road-row′) (take (k .nodes) stock-row′))) z
       ∙ ap accountLines (fronts n m stocks roads road-row road-row′ stock-row stock-row′ (c .arcs) (c .nodes) (t .1));
-    declines = λ e h. absurd (clash s e (a .refuses e (subst (λ k. Refused text k (length stock-row) e) (sym ea) (subst (λ k. Refused text max-arcs k e) (sym en) h))))
-  }
+  declines = λ e h. absurd (clash s e (a .refuses e (subst (λ k. Refused text k (length stock-row) e) (sym ea) (subst (λ k. Refused text max-arcs k e) (sym en) h))));
+}
   where
     clash : (s : Sizes) (e : Refusal) → _≡_ {A = Result Sizes Refusal} (Ok s) (Err e) → ⊥
     clash s e h = let z : _≡_ {A = ℕ} 0 1 = cc in omega arith
@@ -50,16 +50,17 @@ accounted text road-row road-row′ stock-row stock-row′ s bytes ea en a is = 
 pub declined : (text : List ℕ) (road-row road-row′ : List Road) (stock-row stock-row′ : List ℤ) (x : Refusal) (bytes : List ℕ) → length road-row ≡ max-arcs → length stock-row ≡ max-nodes
     → Answered text road-row stock-row (Err x) road-row′ stock-row′ → bytes ≡ refusalLine x → Answers text bytes
 declined text road-row road-row′ stock-row stock-row′ x bytes ea en a is = record {
-    decided = refused x (subst (λ k. Refused text k max-nodes x) ea (subst (λ k. Refused text (length road-row) k x) en (a .outcome .0)));
-    accounts = λ n m stocks roads short c.
+  decided = refused x (subst (λ k. Refused text k max-nodes x) ea (subst (λ k. Refused text (length road-row) k x) en (a .outcome .0)));
+  accounts = λ n m stocks roads short c.
       let few = c .sized .arcs in
       let some = c .sized .nodes in
       absurd (clash (record { nodes = n; arcs = m }) x (a .accepts n m stocks roads short (omega arith) (omega arith) c .0));
-    declines = λ e h. is ∙ ap refusalLine (one x e (a .refuses e (subst (λ k. Refused text k (length stock-row) e) (sym ea) (subst (λ k. Refused text max-arcs k e) (sym en) h))))
-  }
+  declines = λ e h. is ∙ ap refusalLine (one x e (a .refuses e (subst (λ k. Refused text k (length stock-row) e) (sym ea) (subst (λ k. Refused text max-arcs k e) (sym en) h))));
+}
   where
     clash : (s : Sizes) (e : Refusal) → _≡_ {A = Result Sizes Refusal} (Err e) (Ok s) → ⊥
     clash s e h = let z : _≡_ {A = ℕ} 0 1 = cc in omega arith
+
     one : (e f : Refusal) → _≡_ {A = Result Sizes Refusal} (Err e) (Err f) → e ≡ f
     one e f h = cc
 

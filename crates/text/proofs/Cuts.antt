@@ -124,9 +124,11 @@ line-parts text place form h =
     ∙ sym (append-assoc form (10 ∷ []) (drop (place + n + 1) text))
 
 pub line-unbroken : (text : List ℕ) (place : ℕ) (form : List ℕ) → Line-at text place form → Unbroken form
-line-unbroken text place form h = record { each = all-from-getD (λ x. x ≡ 10 → ⊥) form 0 (λ k l e.
-    h .whole (place + k) (omega arith) (omega arith)
-    (sym (getD-drop place text k 0) ∙ sym (getD-take (length form) (drop place text) k 0 l) ∙ ap (λ p. getD p k 0) (sym (h .part)) ∙ e)) }
+line-unbroken text place form h = record {
+  each = all-from-getD (λ x. x ≡ 10 → ⊥) form 0 (λ k l e.
+      h .whole (place + k) (omega arith) (omega arith)
+      (sym (getD-drop place text k 0) ∙ sym (getD-take (length form) (drop place text) k 0 l) ∙ ap (λ p. getD p k 0) (sym (h .part)) ∙ e));
+}
 
 pub line-is : (text : List ℕ) (place : ℕ) (form other x : List ℕ) → Line-at text place form → Unbroken other → drop place text ≡ ended other ++ x → form ≡ other
 line-is text place form other x h k e = cut-line form other _ x (line-unbroken text place form h) k (sym (line-parts text place form h) ∙ e) .0

@@ -66,7 +66,7 @@ pub marks-more : (row : List Bool) (es : List (ℕ × ℤ)) (s : ℕ × ℤ) (n 
 marks-more row es s n len inside h i l =
     ⊎-elim
     (λ e. ap (λ k. getD (set row (s .0) true) k false) e ∙ getD-set-same row (s .0) true false (omega arith)
-      ∙ sym (named-more es s i ∙ ap (λ b. named es i || b) (eq-eqb (s .0) i (sym e)) ∙ or-right-true (named es i)))
+    ∙ sym (named-more es s i ∙ ap (λ b. named es i || b) (eq-eqb (s .0) i (sym e)) ∙ or-right-true (named es i)))
     (λ ne. getD-set-other row (s .0) i true false ne ∙ h i l
-      ∙ sym (named-more es s i ∙ ap (λ b. named es i || b) (ne-eqb (s .0) i (λ e. ne (sym e))) ∙ or-right-false (named es i)))
+    ∙ sym (named-more es s i ∙ ap (λ b. named es i || b) (ne-eqb (s .0) i (λ e. ne (sym e))) ∙ or-right-false (named es i)))
     (cases-eq i (s .0))

@@ -41,12 +41,12 @@ other-first form w rest e f ne says = no-first-word form e (λ more g. ne (other
 
 pub begun-first : (text form : List ℕ) (n m : ℕ) → Line-at text 0 form → form ≡ netForm n m → Sized n m → Begun text n m [] [] (length form + 1)
 begun-first text form n m at e s = record {
-    sized = s;
-    inside = omega (arith, at .inside);
-    front = ap (λ k. take k text) (sym (zero-add (length form + 1))) ∙ line-front text 0 form at ∙ ap ended e ∙ sym (append-nil (ended (netForm n m)));
-    fitting = record { stocked = tt; once = tt; ranged = tt; passable = tt };
-    few = omega arith
-  }
+  sized = s;
+  inside = omega (arith, at .inside);
+  front = ap (λ k. take k text) (sym (zero-add (length form + 1))) ∙ line-front text 0 form at ∙ ap ended e ∙ sym (append-nil (ended (netForm n m)));
+  fitting = record { stocked = tt; once = tt; ranged = tt; passable = tt };
+  few = omega arith;
+}
 
 -- the sizes of a new draft are those of the first line
 pub begun-draft : (text form : List ℕ) (n m : ℕ) (d : Draft) → (d .nodes ≡ n) × (d .arcs ≡ m) → Begun text n m [] [] (length form + 1) → Begun text (d .nodes) (d .arcs) [] [] (length form + 1)

@@ -44,8 +44,8 @@ text-stock : (n m : ℕ) (es : List (ℕ × ℤ)) (rs : List Road) (s : ℕ × �
 text-stock n m es rs s z =
     subst (λ l. textOf n m es l ++ ended (stockForm s) ≡ textOf n m (es ++ (s ∷ [])) l) (sym (nil-from-length rs z))
     (ap (λ l. (ended (netForm n m) ++ l) ++ ended (stockForm s)) (append-nil (joined (λ e. ended (stockForm e)) es))
-     ∙ joined-more (λ e. ended (stockForm e)) (ended (netForm n m)) es s
-     ∙ ap (λ l. ended (netForm n m) ++ l) (sym (append-nil (joined (λ e. ended (stockForm e)) (es ++ (s ∷ []))))))
+    ∙ joined-more (λ e. ended (stockForm e)) (ended (netForm n m)) es s
+    ∙ ap (λ l. ended (netForm n m) ++ l) (sym (append-nil (joined (λ e. ended (stockForm e)) (es ++ (s ∷ []))))))
 
 text-arc : (n m : ℕ) (es : List (ℕ × ℤ)) (rs : List Road) (r : Road) → textOf n m es rs ++ ended (arcForm r) ≡ textOf n m es (rs ++ (r ∷ []))
 text-arc n m es rs r =
@@ -67,9 +67,9 @@ begun-more text n m es es′ rs rs′ place form at (a-stock z s is fits free e 
         stocked = all-push _ es s (b .fitting .stocked) fits;
         once = once-more es s free (b .fitting .once);
         ranged = b .fitting .ranged;
-        passable = b .fitting .passable
+        passable = b .fitting .passable;
       };
-      few = b .few
+      few = b .few;
     }))
 begun-more text n m es es′ rs rs′ place form at (an-arc room r is range fit e f) b =
     subst (λ l. Begun text n m l rs′ (place + (length form + 1))) (sym e) (subst (λ l. Begun text n m es l (place + (length form + 1))) (sym f) (record {
@@ -80,9 +80,9 @@ begun-more text n m es es′ rs rs′ place form at (an-arc room r is range fit 
         stocked = b .fitting .stocked;
         once = b .fitting .once;
         ranged = all-push _ rs r (b .fitting .ranged) range;
-        passable = all-push _ rs r (b .fitting .passable) fit
+        passable = all-push _ rs r (b .fitting .passable) fit;
       };
-      few = omega (arith, length-push rs r)
+      few = omega (arith, length-push rs r);
     }))
 
 -- what a reader of lines knows at a place: the draft `d₀` that it began with has become `d`
@@ -106,8 +106,8 @@ reading-more text d₀ d d′ place form at took h =
       entries = more .0;
       roads = more .1;
       begun = subst (λ n. Begun text n (d′ .arcs) (more .0) (more .1) (place + (length form + 1))) (sym (took .0 .nodes))
-        (subst (λ m. Begun text (d .nodes) m (more .0) (more .1) (place + (length form + 1))) (sym (took .0 .arcs)) b);
-      holds = more .3
+          (subst (λ m. Begun text (d .nodes) m (more .0) (more .1) (place + (length form + 1))) (sym (took .0 .arcs)) b);
+      holds = more .3;
     }
 
 -- sizes as they were
@@ -139,7 +139,7 @@ completed text d₀ d place l full h =
       roads = h .roads;
       begun = subst (λ k. Begun text (d .nodes) (d .arcs) (h .entries) (h .roads) k) whole (h .begun);
       arcs = omega arith;
-      holds = h .holds
+      holds = h .holds;
     }
 
 -- the exit of a `?`

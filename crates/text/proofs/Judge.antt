@@ -44,7 +44,7 @@ agreed [] form h = refl
 agreed (b ∷ w) [] h = absurd (omega arith)
 agreed (b ∷ w) (x ∷ form) h =
     elim (eqb b x) as (λ t. eqb b x ≡ t → cond t (1 + common eqb w form) 0 ≡ length (b ∷ w) → x ∷ form ≡ b ∷ (w ++ drop (length w) form)) [
-        true ↦ λ t q. ap (λ k. k ∷ form) (sym (eqb-true b x t)) ∙ ap (λ l. b ∷ l) (agreed w form (omega (arith, one-add (common eqb w form))))
+      | true ↦ λ t q. ap (λ k. k ∷ form) (sym (eqb-true b x t)) ∙ ap (λ l. b ∷ l) (agreed w form (omega (arith, one-add (common eqb w form))))
       | false ↦ λ t q. absurd (omega arith)
     ] refl h
 
@@ -115,12 +115,23 @@ from-stocked n s h = let l = h .node in (le-pos 0 (s .0) (omega arith), le-pos (
 from-ranged : (n : ℕ) (r : Road) → Ranged n r → Within (arcItems n) (roadNumbers r)
 from-ranged n r h =
     let t = h .tail in
-    let u = h .head in
-    (le-pos 0 (r .tail) (omega arith), le-pos (r .tail) (n - 1) (omega arith),
-    (le-pos 0 (r .head) (omega arith), le-pos (r .head) (n - 1) (omega arith),
-    (le-pos 0 (r .least) (omega arith), le-pos (r .least) max-most (h .least),
-    (le-pos 0 (r .most) (omega arith), le-pos (r .most) max-most (h .most),
-    (h .first .0, h .first .1, (h .second .0, h .second .1, tt))))))
+    let u = h .head in (
+      le-pos 0 (r .tail) (omega arith),
+      le-pos (r .tail) (n - 1) (omega arith),
+      (
+        le-pos 0 (r .head) (omega arith),
+        le-pos (r .head) (n - 1) (omega arith),
+        (
+          le-pos 0 (r .least) (omega arith),
+          le-pos (r .least) max-most (h .least),
+          (
+            le-pos 0 (r .most) (omega arith),
+            le-pos (r .most) max-most (h .most),
+            (h .first .0, h .first .1, (h .second .0, h .second .1, tt)),
+          ),
+        ),
+      ),
+    )
 
 pub stock-read : (n : ℕ) (s : ℕ × ℤ) (p : ℕ) → n ≤ max-nodes → Stocked n s → scan (stockItems n) (drop (length (spelt Stock)) (stockForm s)) p ≡ Ok (stockNumbers s)
 stock-read n s p few h = complete (stockItems n) p (stockNumbers s) (stock-plain n few) (from-stocked n s h)
@@ -136,9 +147,9 @@ fits-not r h =
     ⊎-elim
     (λ e. and-left (not (eqb (r .tail) (r .head))) (leb (r .least) (r .most)) (ap not (eq-eqb (r .tail) (r .head) e)))
     (λ ne. ⊎-elim
-      (λ l. and-right (not (eqb (r .tail) (r .head))) (leb (r .least) (r .most)) (lt-leb (r .least) (r .most) l))
-      (λ l. absurd (h (record { apart = ne; room = l })))
-      (cases-lt (r .most) (r .least)))
+    (λ l. and-right (not (eqb (r .tail) (r .head))) (leb (r .least) (r .most)) (lt-leb (r .least) (r .most) l))
+    (λ l. absurd (h (record { apart = ne; room = l })))
+    (cases-lt (r .most) (r .least)))
     (cases-eq (r .tail) (r .head))
 
 pub judge-bad : (n m : ℕ) (es : List (ℕ × ℤ)) (rs : List Road) (form : List ℕ) (place : ℕ) (e : Refusal) → n ≤ max-nodes → Line-fault n m es rs form place e

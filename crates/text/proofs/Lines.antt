@@ -31,28 +31,30 @@ use Rattle.text.proofs.Entries.{stocks-more, marks-more}
 -- a stock
 pub stock-held : (d d′ : Draft) (s : ℕ × ℤ) (es : List (ℕ × ℤ)) (rs : List Road) → s .0 < max-nodes → named es (s .0) ≡ false → Stock-put d s d′ → Holds d es rs → Holds d′ (es ++ (s ∷ [])) rs
 stock-held d d′ s es rs inside free p h = record {
-    stock = λ i l. ap (λ row. getD row i (pos 0)) (p .stocks) ∙ stocks-more (d .stocks) es s max-nodes (d .«stocks_len») free inside (h .stock) i l;
-    marks = λ i l. ap (λ row. getD row i false) (p .marks) ∙ marks-more (d .named) es s max-nodes (d .«named_len») inside (h .marks) i l;
-    roads-are = ap (λ k. take k (d′ .roads)) (p .count) ∙ ap (take (d .count)) (p .roads) ∙ h .roads-are;
-    count-is = p .count ∙ h .count-is
-  }
+  stock = λ i l. ap (λ row. getD row i (pos 0)) (p .stocks) ∙ stocks-more (d .stocks) es s max-nodes (d .«stocks_len») free inside (h .stock) i l;
+  marks = λ i l. ap (λ row. getD row i false) (p .marks) ∙ marks-more (d .named) es s max-nodes (d .«named_len») inside (h .marks) i l;
+  roads-are = ap (λ k. take k (d′ .roads)) (p .count) ∙ ap (take (d .count)) (p .roads) ∙ h .roads-are;
+  count-is = p .count ∙ h .count-is;
+}
 
 pub stock-line : (d d′ : Draft) (form rest : List ℕ) (place start : ℕ) (r : Result (Unit {0}) Refusal) → start ≡ place + length (spelt Stock) → form ≡ spelt Stock ++ rest → d .count ≡ 0
     → Stock-took d rest start place d′ r → Line-took d form place d′ r
 stock-line d d′ form rest place start (Ok u) b e z (s, read, inside, free, p) =
-    let v = stock-values (d .nodes) rest start s (d .some) read in
-    (p .sizes, λ es rs h.
-      let few = d .«nodes_few» in
-      let within : s .0 < max-nodes = omega arith in
-      let fresh : named es (s .0) ≡ false = sym (h .marks (s .0) within) ∙ free in
-      (es ++ (s ∷ []), rs, a-stock (sym (h .count-is) ∙ z) s (e ∙ v .0) (v .1) fresh refl refl, stock-held d d′ s es rs within fresh p h))
+    let v = stock-values (d .nodes) rest start s (d .some) read in (
+      p .sizes,
+      λ es rs h.
+          let few = d .«nodes_few» in
+          let within : s .0 < max-nodes = omega arith in
+          let fresh : named es (s .0) ≡ false = sym (h .marks (s .0) within) ∙ free in
+          (es ++ (s ∷ []), rs, a-stock (sym (h .count-is) ∙ z) s (e ∙ v .0) (v .1) fresh refl refl, stock-held d d′ s es rs within fresh p h),
+    )
 stock-line d d′ form rest place start (Err x) b e z (inl read) = λ es rs h. bad-stock (sym (h .count-is) ∙ z) rest e (subst (λ k. Faulty (stockItems (d .nodes)) rest k x) b (faulty _ rest start x read))
 stock-line d d′ form rest place start (Err x) b e z (inr (s, read, inside, taken, says)) =
     let v = stock-values (d .nodes) rest start s (d .some) read in
     λ es rs h.
-      let few = d .«nodes_few» in
-      let within : s .0 < max-nodes = omega arith in
-      named-twice (sym (h .count-is) ∙ z) s (e ∙ v .0) (v .1) (sym (h .marks (s .0) within) ∙ taken) says
+    let few = d .«nodes_few» in
+    let within : s .0 < max-nodes = omega arith in
+    named-twice (sym (h .count-is) ∙ z) s (e ∙ v .0) (v .1) (sym (h .marks (s .0) within) ∙ taken) says
 
 -- an arc
 pub road-held : (d d′ : Draft) (r : Road) (es : List (ℕ × ℤ)) (rs : List Road) → d .count < d .arcs → Road-put d r d′ → Holds d es rs → Holds d′ es (rs ++ (r ∷ []))
@@ -64,7 +66,7 @@ road-held d d′ r es rs room p h =
       stock = λ i l. ap (λ row. getD row i (pos 0)) (p .stocks) ∙ h .stock i l;
       marks = λ i l. ap (λ row. getD row i false) (p .marks) ∙ h .marks i l;
       roads-are = ap (λ k. take k (d′ .roads)) (p .count) ∙ ap (take (d .count + 1)) (p .roads) ∙ take-more-set (d .roads) (d .count) r inside ∙ ap (λ l. l ++ (r ∷ [])) (h .roads-are);
-      count-is = p .count ∙ ap (λ k. k + 1) (h .count-is) ∙ sym (length-append rs (r ∷ []))
+      count-is = p .count ∙ ap (λ k. k + 1) (h .count-is) ∙ sym (length-append rs (r ∷ []));
     }
 
 pub arc-line : (d d′ : Draft) (form rest : List ℕ) (place start : ℕ) (r : Result (Unit {0}) Refusal) → start ≡ place + length (spelt Arc) → form ≡ spelt Arc ++ rest → d .count < d .arcs

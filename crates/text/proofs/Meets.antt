@@ -141,7 +141,7 @@ meet n [] (l ∷ ls) x y few h g e = before l ls refl (e ∙ append-assoc (ended
 meet n (k ∷ ks) [] x y few h g e = after k ks refl (sym e ∙ append-assoc (ended (formOf k)) (body ks) x)
 meet n (k ∷ ks) (l ∷ ls) x y few h g e =
     let c = cut-line (formOf k) (formOf l) (body ks ++ x) (body ls ++ y) (good-unbroken n k few (h .0)) (good-unbroken n l few (g .0))
-      (sym (append-assoc (ended (formOf k)) (body ks) x) ∙ e ∙ append-assoc (ended (formOf l)) (body ls) y) in
+    (sym (append-assoc (ended (formOf k)) (body ks) x) ∙ e ∙ append-assoc (ended (formOf l)) (body ls) y) in
     one-more k l ks ls x y (same-entry n k l few (h .0) (g .0) (c .0)) (meet n ks ls x y few (h .1) (g .1) (c .1))
 
 -- what may come next, after the entries and so many arcs
@@ -224,9 +224,9 @@ begun-place text n m es rs p b = sym (length-take-le p text (b .inside)) ∙ ap 
 pub meeting : (text : List ℕ) (n m : ℕ) (es fs : List (ℕ × ℤ)) (rs ss : List Road) (p q : ℕ) → Begun text n m es rs p → Begun text n m fs ss q → Meeting text n m es rs p fs ss q
 meeting text n m es fs rs ss p q b c =
     elim (meet n (listed es rs) (listed fs ss) (drop p text) (drop q text) (b .sized .nodes)
-        (all-good n es rs (b .fitting .stocked) (b .fitting .ranged)) (all-good n fs ss (c .fitting .stocked) (c .fitting .ranged))
-        (append-cancel-left (ended (netForm n m)) _ _ (sym (begun-parts text n m es rs p b) ∙ begun-parts text n m fs ss q c))) [
-        before k more e x ↦ before k _ (begun-next text n m es fs rs ss q k more c e) x
+    (all-good n es rs (b .fitting .stocked) (b .fitting .ranged)) (all-good n fs ss (c .fitting .stocked) (c .fitting .ranged))
+    (append-cancel-left (ended (netForm n m)) _ _ (sym (begun-parts text n m es rs p b) ∙ begun-parts text n m fs ss q c))) [
+      | before k more e x ↦ before k _ (begun-next text n m es fs rs ss q k more c e) x
       | equal e x ↦ together (sym (stocks-listed es rs) ∙ ap stocks-of e ∙ stocks-listed fs ss) (sym (roads-listed es rs) ∙ ap roads-of e ∙ roads-listed fs ss)
       | after k more e x ↦ after k _ (begun-next text n m fs es ss rs p k more b e) x
     ]

@@ -46,7 +46,7 @@ consigned text d c =
       fitting = b .fitting;
       arcs = c .arcs;
       nodes = length-take-le (d .nodes) (d .stocks) (omega arith);
-      stock = λ i l. getD-take (d .nodes) (d .stocks) i (pos 0) l ∙ c .holds .stock i (omega arith)
+      stock = λ i l. getD-take (d .nodes) (d .stocks) i (pos 0) l ∙ c .holds .stock i (omega arith);
     }
 
 pub taken : (text : List ℕ) (d₀ d : Draft) (n m : ℕ) (road-row road-row′ : List Road) (stock-row stock-row′ : List ℤ) → length text ≤ max-text → m ≤ length road-row → n ≤ length stock-row
@@ -66,6 +66,6 @@ taken text d₀ d n m road-row road-row′ stock-row stock-row′ short p q en e
       consignment = subst (λ k. Is-consignment text k m (take (d .nodes) (d .stocks)) (c .roads)) nodes (subst (λ k. Is-consignment text (d .nodes) k (take (d .nodes) (d .stocks)) (c .roads)) arcs (consigned text d c));
       filled = record {
         roads-is = er ∙ ap (λ l. l ++ drop (d .count) road-row) (c .holds .roads-are) ∙ ap (λ k. c .roads ++ drop k road-row) count;
-        stocks-is = es ∙ ap (λ k. take (d .nodes) (d .stocks) ++ drop k stock-row) nodes
-      }
+        stocks-is = es ∙ ap (λ k. take (d .nodes) (d .stocks) ++ drop k stock-row) nodes;
+      };
     }

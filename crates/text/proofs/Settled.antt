@@ -125,7 +125,7 @@ end-line : (text : List ℕ) (n m : ℕ) (es fs : List (ℕ × ℤ)) (rs ss : Li
     → Begun text n m es rs p → No-line text p → Begun text n m fs ss q → Line-at text q form → Line-fault n m fs ss form q e → ⊥
 end-line text n m es fs rs ss p q form e b none c at fault =
     elim (meeting text n m es fs rs ss p q b c) [
-        before k x next is ↦ line-there text p (formOf k) x is none
+      | before k x next is ↦ line-there text p (formOf k) x is none
       | equal e1 e2 e3 ↦ line-not-none text q form at (subst (λ z. No-line text z) e3 none)
       | after k x next is ↦ no-fault text n m fs ss q form e k x (c .sized) next is at fault
     ]
@@ -134,7 +134,7 @@ one-fault : (text : List ℕ) (n m : ℕ) (es fs : List (ℕ × ℤ)) (rs ss : L
     → Begun text n m es rs p → Line-at text p form → Line-fault n m es rs form p e → Begun text n m fs ss q → Line-at text q other → Line-fault n m fs ss other q f → e ≡ f
 one-fault text n m es fs rs ss p q form other e f b at fault c at′ fault′ =
     elim (meeting text n m es fs rs ss p q b c) [
-        before k x next is ↦ absurd (no-fault text n m es rs p form e k x (b .sized) next is at fault)
+      | before k x next is ↦ absurd (no-fault text n m es rs p form e k x (b .sized) next is at fault)
       | equal e1 e2 e3 ↦ err-one {X = List ℤ} e f (
           sym (judge-bad n m es rs form p e (b .sized .nodes) fault)
           ∙ ap (λ l. judge n m l (length rs) form p) e1 ∙ ap (λ l. judge n m fs (length l) form p) e2 ∙ ap (λ z. judge n m fs (length ss) form z) e3
@@ -161,8 +161,8 @@ refused-one text a b e f h k = both (placed text a b e h) (placed text a b f k)
     both (inl p) (inr (n, m, q, s)) = absurd (ok-not-err (n, m) e (sym q ∙ p))
     both (inr (n, m, p, s)) (inl q) = absurd (ok-not-err (n, m) f (sym p ∙ q))
     both (inr (n, m, p, s)) (inr (k, l, q, t)) =
-      let z = ok-sizes n m k l (sym p ∙ q) in
-      stopped-one text k l e f (subst (λ x. Stopped text x l e) (z .0) (subst (λ x. Stopped text n x e) (z .1) s)) t
+        let z = ok-sizes n m k l (sym p ∙ q) in
+        stopped-one text k l e f (subst (λ x. Stopped text x l e) (z .0) (subst (λ x. Stopped text n x e) (z .1) s)) t
 
 -- a consignment is read to its end
 whole : (text : List ℕ) (n m : ℕ) (stocks : List ℤ) (roads : List Road) (c : Is-consignment text n m stocks roads) → Begun text n m (c .entries) roads (length text)
@@ -176,13 +176,13 @@ nothing-left text form x e = line-there text (length text) form x e (λ k from t
 not-stopped : (text : List ℕ) (n m : ℕ) (stocks : List ℤ) (roads : List Road) (e : Refusal) → Is-consignment text n m stocks roads → Stopped text n m e → ⊥
 not-stopped text n m stocks roads e c (drafts.no-end es rs p b none left says) =
     elim (meeting text n m es (c .entries) rs roads p (length text) b (whole text n m stocks roads c)) [
-        before k x next is ↦ line-there text p (formOf k) x is none
+      | before k x next is ↦ line-there text p (formOf k) x is none
       | equal e1 e2 e3 ↦ ⊎-elim (λ l. omega arith) (λ l. omega (arith, ap length e2, c .arcs)) left
       | after k x next is ↦ nothing-left text (formOf k) x is
     ]
 not-stopped text n m stocks roads e c (drafts.bad-line es rs p b form at fault) =
     elim (meeting text n m es (c .entries) rs roads p (length text) b (whole text n m stocks roads c)) [
-        before k x next is ↦ no-fault text n m es rs p form e k x (b .sized) next is at fault
+      | before k x next is ↦ no-fault text n m es rs p form e k x (b .sized) next is at fault
       | equal e1 e2 e3 ↦ (let l = at .inside in omega arith)
       | after k x next is ↦ nothing-left text (formOf k) x is
     ]
@@ -195,32 +195,32 @@ not-refused text a b n m stocks roads e short p q c h = late (placed text a b e 
     late : Placed text a b e → ⊥
     late (inl r) = ok-not-err (n, m) e (sym (opened text a b n m (c .entries) roads (length text) short (whole text n m stocks roads c) p q) ∙ r)
     late (inr (k, l, r, s)) =
-      let z = ok-sizes k l n m (sym r ∙ opened text a b n m (c .entries) roads (length text) short (whole text n m stocks roads c) p q) in
-      not-stopped text n m stocks roads e c (subst (λ x. Stopped text x m e) (z .0) (subst (λ x. Stopped text k x e) (z .1) s))
+        let z = ok-sizes k l n m (sym r ∙ opened text a b n m (c .entries) roads (length text) short (whole text n m stocks roads c) p q) in
+        not-stopped text n m stocks roads e c (subst (λ x. Stopped text x m e) (z .0) (subst (λ x. Stopped text k x e) (z .1) s))
 
 -- two consignments of one text are one
 pub consigned-one : (text : List ℕ) (n m k l : ℕ) (stocks stocks′ : List ℤ) (roads roads′ : List Road) → length text ≤ max-text
     → Is-consignment text n m stocks roads → Is-consignment text k l stocks′ roads′ → (n ≡ k) × (m ≡ l) × (stocks ≡ stocks′) × (roads ≡ roads′)
 consigned-one text n m k l stocks stocks′ roads roads′ short c d =
     let z = ok-sizes n m k l (sym (opened text (m + l) (n + k) n m _ roads (length text) short (whole text n m stocks roads c) (omega arith) (omega arith))
-      ∙ opened text (m + l) (n + k) k l _ roads′ (length text) short (whole text k l stocks′ roads′ d) (omega arith) (omega arith)) in
+    ∙ opened text (m + l) (n + k) k l _ roads′ (length text) short (whole text k l stocks′ roads′ d) (omega arith) (omega arith)) in
     let w = whole text k l stocks′ roads′ d in
     same z (subst (λ x. Begun text x m (d .entries) roads′ (length text)) (sym (z .0)) (subst (λ x. Begun text k x (d .entries) roads′ (length text)) (sym (z .1)) w))
   where
     same : (n ≡ k) × (m ≡ l) → Begun text n m (d .entries) roads′ (length text) → (n ≡ k) × (m ≡ l) × (stocks ≡ stocks′) × (roads ≡ roads′)
     same z w = elim (meeting text n m (c .entries) (d .entries) roads roads′ (length text) (length text) (whole text n m stocks roads c) w) [
-        before j x next is ↦ absurd (nothing-left text (formOf j) x is)
+      | before j x next is ↦ absurd (nothing-left text (formOf j) x is)
       | equal e1 e2 e3 ↦ (z .0, z .1, ext-getD (pos 0) stocks stocks′ (c .nodes ∙ z .0 ∙ sym (d .nodes)) (λ i h. c .stock i (omega (arith, c .nodes)) ∙ ap (λ es. stockOf es i) e1 ∙ sym (d .stock i (omega (arith, c .nodes, z .0)))), e2)
       | after j x next is ↦ absurd (nothing-left text (formOf j) x is)
-      ]
+    ]
 
 -- so an outcome is the whole promise
 refilled : (n m k l : ℕ) (stocks stocks′ : List ℤ) (roads roads′ road-row road-row′ : List Road) (stock-row stock-row′ : List ℤ) → (n ≡ k) × (m ≡ l) × (stocks ≡ stocks′) × (roads ≡ roads′)
     → Filled n m stocks roads road-row road-row′ stock-row stock-row′ → Filled k l stocks′ roads′ road-row road-row′ stock-row stock-row′
 refilled n m k l stocks stocks′ roads roads′ road-row road-row′ stock-row stock-row′ z f = record {
-    roads-is = f .roads-is ∙ ap (λ x. roads ++ drop x road-row) (z .1) ∙ ap (λ x. x ++ drop l road-row) (z .3);
-    stocks-is = f .stocks-is ∙ ap (λ x. stocks ++ drop x stock-row) (z .0) ∙ ap (λ x. x ++ drop k stock-row) (z .2)
-  }
+  roads-is = f .roads-is ∙ ap (λ x. roads ++ drop x road-row) (z .1) ∙ ap (λ x. x ++ drop l road-row) (z .3);
+  stocks-is = f .stocks-is ∙ ap (λ x. stocks ++ drop x stock-row) (z .0) ∙ ap (λ x. x ++ drop k stock-row) (z .2);
+}
 
 sizes-one : (s : Sizes) (k l : ℕ) → s .nodes ≡ k → s .arcs ≡ l → _≡_ {A = Result Sizes Refusal} (Ok s) (Ok (record { nodes = k; arcs = l }))
 sizes-one s k l p q = ap (λ x. Ok (record { nodes = x; arcs = s .arcs })) p ∙ ap (λ x. Ok (record { nodes = k; arcs = x })) q
@@ -228,14 +228,14 @@ sizes-one s k l p q = ap (λ x. Ok (record { nodes = x; arcs = s .arcs })) p ∙
 pub settled : (text : List ℕ) (road-row : List Road) (stock-row : List ℤ) (r : Result Sizes Refusal) (road-row′ : List Road) (stock-row′ : List ℤ)
     → Outcome text road-row stock-row r road-row′ stock-row′ → Answered text road-row stock-row r road-row′ stock-row′
 settled text road-row stock-row (Ok s) road-row′ stock-row′ h = record {
-    outcome = h;
-    accepts = λ n m stocks roads short p q c.
+  outcome = h;
+  accepts = λ n m stocks roads short p q c.
       let z = consigned-one text (s .nodes) (s .arcs) n m (h .stocks) stocks (h .roads) roads short (h .consignment) c in
       (sizes-one s n m (z .0) (z .1), refilled (s .nodes) (s .arcs) n m (h .stocks) stocks (h .roads) roads road-row road-row′ stock-row stock-row′ z (h .filled));
-    refuses = λ e f. absurd (not-refused text (length road-row) (length stock-row) (s .nodes) (s .arcs) (h .stocks) (h .roads) e (h .short) (h .road-room) (h .stock-room) (h .consignment) f)
-  }
+  refuses = λ e f. absurd (not-refused text (length road-row) (length stock-row) (s .nodes) (s .arcs) (h .stocks) (h .roads) e (h .short) (h .road-room) (h .stock-room) (h .consignment) f);
+}
 settled text road-row stock-row (Err x) road-row′ stock-row′ h = record {
-    outcome = h;
-    accepts = λ n m stocks roads short p q c. absurd (not-refused text (length road-row) (length stock-row) n m stocks roads x short p q c (h .0));
-    refuses = λ e f. ap Err (refused-one text (length road-row) (length stock-row) x e (h .0) f)
-  }
+  outcome = h;
+  accepts = λ n m stocks roads short p q c. absurd (not-refused text (length road-row) (length stock-row) n m stocks roads x short p q c (h .0));
+  refuses = λ e f. ap Err (refused-one text (length road-row) (length stock-row) x e (h .0) f);
+}

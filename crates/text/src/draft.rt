@@ -3,7 +3,6 @@ ghost use mathlib.Core.Path.{_≡_};
 ghost use Prim.Native.Nat.{_<_, _≤_};
 ghost use lib.ListN.{length};
 ghost use Rattle.network.specs.Limits.{max-nodes, max-arcs};
-
 use network::limits::MAX_ARCS;
 use network::limits::MAX_NODES;
 use network::road::Road;

@@ -8,7 +8,6 @@ ghost use Rattle.network.specs.Refusals.{Says-at};
 ghost use Rattle.lines.specs.Word.{spelt, furthest as reach};
 ghost use Rattle.text.specs.Refused.{openWords, Begun};
 ghost use Rattle.text.specs.Drafts.{Holds, Stock-took, Road-took, Line-took, Lines-took};
-
 use crate::draft::Draft;
 use forms::form::arc;
 use forms::form::passable;
@@ -29,7 +28,14 @@ impl Draft {
         ensures sizes { λ r. ⌜ (r .nodes ≡ nodes) × (r .arcs ≡ arcs) ⌝ }
         ensures empty { λ r. ⌜ Holds r [] [] ⌝ }
     {
-        let none = Road { tail: 0, head: 0, least: 0, most: 0, first: 0, second: 0 };
+        let none = Road {
+            tail: 0,
+            head: 0,
+            least: 0,
+            most: 0,
+            first: 0,
+            second: 0,
+        };
         Draft {
             nodes,
             arcs,
@@ -71,7 +77,13 @@ impl Draft {
     }
 
     // Takes the line at `place`, whose word is `word`, with `rest` after it.
-    fn take_known(&mut self, form: &[u8], word: Word, rest: &[u8], place: usize) -> Result<(), Refusal>
+    fn take_known(
+        &mut self,
+        form: &[u8],
+        word: Word,
+        rest: &[u8],
+        place: usize,
+    ) -> Result<(), Refusal>
         requires { ⌜ place + length (now form) < 2 ^ 62 ⌝ ∗ ⌜ now form ≡ spelt word ++ now rest ⌝ }
         ensures { λ r. ⌜ Line-took (now (self .entry)) (now (form .entry)) place (now (self .exit)) r ⌝ }
     {

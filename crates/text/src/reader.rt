@@ -8,7 +8,6 @@ ghost use Rattle.network.specs.Refusals.{Says-at};
 ghost use Rattle.lines.specs.Word.{spelt, furthest as reach};
 ghost use Rattle.lines.specs.declared.word.Word.the-variants.{Net};
 ghost use Rattle.text.specs.Reader.{Answered, First-read};
-
 use crate::draft::Draft;
 use crate::sizes::Sizes;
 use forms::form::net;
@@ -38,7 +37,10 @@ pub fn read(text: &[u8], roads: &mut [Road], stocks: &mut [i32]) -> Result<Sizes
     let mut draft = Draft::new(nodes, arcs);
     draft.take_lines(text, form.len() + 1)?;
     draft.copy_into(roads, stocks);
-    Ok(Sizes { nodes: nodes as usize, arcs: arcs as usize })
+    Ok(Sizes {
+        nodes: nodes as usize,
+        arcs: arcs as usize,
+    })
 }
 
 // The numbers of nodes and arcs that the first line names.

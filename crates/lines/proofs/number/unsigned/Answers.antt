@@ -15,7 +15,8 @@ returns-in-45 c =
 pub returns-in-rest : need.returns-in-rest
 returns-in-rest c =
     let other : getD (c .args .bytes .now) 0 0 ≡ 45 → ⊥ = elim (c .in-rest .came) [
-        in-rest·by·then-bytes-lt1 w ↦ (let l : length (c .args .bytes .now) < 1 = search needs in none-first (c .args .bytes .now) l)
-      | in-rest·by·else-bytes-lt1·in-rest· w ↦ search needs ] in
+      | in-rest·by·then-bytes-lt1 w ↦ (let l : length (c .args .bytes .now) < 1 = search needs in none-first (c .args .bytes .now) l)
+      | in-rest·by·else-bytes-lt1·in-rest· w ↦ search needs
+    ] in
     let p = no-minus (c .args .bytes .now) other in
     record { sign = p .0; rest = p .1; len = search needs }

@@ -12,5 +12,5 @@ returns c =
     let p = c .in-Continue-value .ensures tt in
     simp toZ-ofZ (record {
       reads = record { is = λ more. number-taken _ _ (c .args .self .now .bytes .now) (c .args .self .now .place) _ (c .in-Continue-value .value) more (p .0) (p .1) };
-      within = number-within _ _ (c .args .self .now .bytes .now) (c .args .self .now .place) _ (p .0)
+      within = number-within _ _ (c .args .self .now .bytes .now) (c .args .self .now .place) _ (p .0);
     })

@@ -20,10 +20,10 @@ returns-in-Arc c =
 
 pub returns-in-rest : need.returns-in-rest
 returns-in-rest c = elim (c .in-rest .came) [
-    in-rest·by·in-Stock·else-self-eq0 w ↦ closed-known (c .args .self .now) (c .args .form .now) Stock (c .args .rest .now) (c .args .place) (c .no-word .result)
+  | in-rest·by·in-Stock·else-self-eq0 w ↦ closed-known (c .args .self .now) (c .args .form .now) Stock (c .args .rest .now) (c .args .place) (c .no-word .result)
       (c .pre .1 ∙ ap (λ v. spelt v ++ c .args .rest .now) (w .in-Stock .is)) (λ z q. w .if-self-eq0 .left z) (λ l q. omega arith) (c .no-word .ensures)
   | in-rest·by·in-Arc·else-self w ↦ closed-known (c .args .self .now) (c .args .form .now) Arc (c .args .rest .now) (c .args .place) (c .no-word .result)
       (c .pre .1 ∙ ap (λ v. spelt v ++ c .args .rest .now) (w .in-Arc .is)) (λ z q. omega arith) (λ l q. (let k = w .if-self .left in omega arith)) (c .no-word .ensures)
   | in-rest·by·in-Net· w ↦ (let e : c .args .word ≡ Net = search needs in closed-known (c .args .self .now) (c .args .form .now) Net (c .args .rest .now) (c .args .place) (c .no-word .result)
       (c .pre .1 ∙ ap (λ v. spelt v ++ c .args .rest .now) e) (λ z q. omega arith) (λ l q. omega arith) (c .no-word .ensures))
-  ]
+]

@@ -35,6 +35,10 @@ returns-then-self-i c =
 pub returns : need.returns
 returns c =
     let f : SFits w32 (c .in-Continue-node .amount) = search needs in
-    let v = stock-values _ _ _ (c .in-Continue-node .node, c .in-Continue-node .amount) (c .args .self .now .some) (c .in-Continue-node .ensures tt) .1 .node in
-    ((c .in-Continue-node .node, c .in-Continue-node .amount), c .in-Continue-node .ensures tt, v, search needs,
-      record { stocks = ap (set (c .args .self .now .stocks) (c .in-Continue-node .node)) (toZ-ofZ w32 (c .in-Continue-node .amount) f); marks = refl; roads = refl; count = refl; sizes = record { nodes = refl; arcs = refl } })
+    let v = stock-values _ _ _ (c .in-Continue-node .node, c .in-Continue-node .amount) (c .args .self .now .some) (c .in-Continue-node .ensures tt) .1 .node in (
+      (c .in-Continue-node .node, c .in-Continue-node .amount),
+      c .in-Continue-node .ensures tt,
+      v,
+      search needs,
+      record { stocks = ap (set (c .args .self .now .stocks) (c .in-Continue-node .node)) (toZ-ofZ w32 (c .in-Continue-node .amount) f); marks = refl; roads = refl; count = refl; sizes = record { nodes = refl; arcs = refl } },
+    )
