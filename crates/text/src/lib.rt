@@ -1,7 +1,7 @@
 // The carriage text: reading a consignment into rows.
-pub mod draft;
-pub mod filling;
-pub mod reader;
+mod draft;
+mod filling;
+mod reader;
 pub mod sizes;
 
 pub use reader::read;
