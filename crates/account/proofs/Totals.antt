@@ -11,7 +11,8 @@ use Rattle.std.specs.shelf.Lists.{sumBy}
 use Rattle.std.proofs.shelf.Lists.{take-all}
 use Rattle.std.proofs.shelf.Sums.{sumBy-more}
 use Rattle.network.specs.declared.road.Road.{Road}
-use Rattle.account.specs.Accounts.{surplus, lack, span}
+use Rattle.network.specs.Net.{span}
+use Rattle.account.specs.Accounts.{surplus, lack}
 
 -- the sum over the first i, where each adds at most m
 abbrev pub So-far : {X : Type 0} → (X → ℕ) → ℕ → List X → ℕ → ℕ → Type 0

@@ -1,10 +1,11 @@
 -- What an account counts.
 use mathlib.Core.List.{List}
-use Prim.Native.Nat.{ℕ, suc, _*_}
-use lib.IntN.{ℤ, pos, negsuc, natAbs}
+use Prim.Native.Nat.{ℕ, suc}
+use lib.IntN.{ℤ, pos, negsuc}
 use lib.ListN.{length}
 use lib.Signed.{ltZ}
 use Rattle.std.specs.shelf.Lists.{sumBy, countBy}
+use Rattle.network.specs.Net.{reachOf}
 use Rattle.network.specs.declared.road.Road.{Road}
 use Rattle.account.specs.declared.account.Account.{Account}
 
@@ -30,14 +31,6 @@ nodesOffering stocks = countBy (λ z. ltZ (pos 0) z) stocks
 
 abbrev pub nodesWanting : List ℤ → ℕ
 nodesWanting stocks = countBy (λ z. ltZ z (pos 0)) stocks
-
--- a road's most times the distance of its cost from zero
-abbrev pub span : (Road → ℤ) → Road → ℕ
-span cost r = r .most * natAbs (cost r)
-
--- the same of all the roads
-abbrev pub reachOf : (Road → ℤ) → List Road → ℕ
-reachOf cost roads = sumBy (span cost) roads
 
 abbrev pub accountOf : List Road → List ℤ → Account
 accountOf roads stocks = record {

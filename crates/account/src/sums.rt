@@ -1,6 +1,7 @@
 // The account of roads and stocks. No sum passes 128 bits: a row has fewer than 2^64 entries, and each adds at most 2^63.
 ghost use mathlib.Core.Path.{_≡_};
-ghost use Rattle.account.specs.Accounts.{chestsOffered, chestsWanted, nodesOffering, nodesWanting, reachOf, accountOf};
+ghost use Rattle.network.specs.Net.{reachOf};
+ghost use Rattle.account.specs.Accounts.{chestsOffered, chestsWanted, nodesOffering, nodesWanting, accountOf};
 use crate::account::Account;
 use network::road::Road;
 

@@ -24,3 +24,11 @@ max-cost = 1000
 -- bytes of a text
 abbrev pub max-text : ℕ
 max-text = 65536
+
+-- at each node, the stock's distance from zero plus the mosts of the arcs that touch it
+abbrev pub max-node : ℕ
+max-node = 2000000
+
+-- for each cost, the fixed cost's distance from zero plus the sum of most × the cost's distance from zero
+abbrev pub max-reach : ℕ
+max-reach = 1000000000

@@ -23,3 +23,13 @@ pub record Ranged (nodes : ℕ) (r : Road) : Type 0 where
 pub record Passable (r : Road) : Type 0 where
   pub apart : r .tail ≡ r .head → ⊥
   pub room : r .least ≤ r .most
+
+-- a road with some fields changed, one setter for each change
+abbrev pub withMost : Road → ℕ → Road
+withMost r u = record { tail = r .tail; head = r .head; least = r .least; most = u; first = r .first; second = r .second }
+
+abbrev pub withBounds : Road → ℕ → ℕ → Road
+withBounds r l u = record { tail = r .tail; head = r .head; least = l; most = u; first = r .first; second = r .second }
+
+abbrev pub withCosts : Road → ℤ → ℤ → Road
+withCosts r c d = record { tail = r .tail; head = r .head; least = r .least; most = r .most; first = c; second = d }

@@ -1,4 +1,6 @@
-// The words that every other crate uses: limits, roads and refusals.
+// What every other crate speaks of: limits, roads, refusals, and the interface of a network.
+pub mod interface;
 pub mod limits;
 pub mod refusal;
 pub mod road;
+pub mod size;

@@ -1,6 +1,6 @@
 // Every limit of a consignment, once. `specs/Limits.antt` has the same numbers for the contracts.
 ghost use mathlib.Core.Path.{_≡_};
-ghost use Rattle.network.specs.Limits.{max-nodes, max-arcs, max-stock, max-most, max-cost, max-text};
+ghost use Rattle.network.specs.Limits.{max-nodes, max-arcs, max-stock, max-most, max-cost, max-text, max-node, max-reach};
 
 /// Nodes of a network: from 1 to this.
 pub const MAX_NODES: usize = 200;
@@ -15,6 +15,11 @@ pub const MAX_COST: u32 = 1_000;
 /// Bytes of a text.
 pub const MAX_TEXT: usize = 65_536;
 
+/// At each node, the stock's distance from zero plus the mosts of the arcs that touch it.
+pub const MAX_NODE: u32 = 2_000_000;
+/// For each cost, the fixed cost's distance from zero plus the sum of most × the cost's distance from zero.
+pub const MAX_REACH: u64 = 1_000_000_000;
+
 /// All limits at once.
 #[derive(Clone, Copy)]
 pub struct Limits {
@@ -24,11 +29,13 @@ pub struct Limits {
     pub most: u32,
     pub cost: u32,
     pub text: usize,
+    pub node: u32,
+    pub reach: u64,
 }
 
 /// The limits of the code, which are those of the contracts.
 pub fn all_limits() -> Limits
-    ensures { λ r. ⌜ r ≡ record { nodes = max-nodes; arcs = max-arcs; stock = max-stock; most = max-most; cost = max-cost; text = max-text } ⌝ }
+    ensures { λ r. ⌜ r ≡ record { nodes = max-nodes; arcs = max-arcs; stock = max-stock; most = max-most; cost = max-cost; text = max-text; node = max-node; reach = max-reach } ⌝ }
 {
     Limits {
         nodes: MAX_NODES,
@@ -37,5 +44,7 @@ pub fn all_limits() -> Limits
         most: MAX_MOST,
         cost: MAX_COST,
         text: MAX_TEXT,
+        node: MAX_NODE,
+        reach: MAX_REACH,
     }
 }

@@ -2,7 +2,7 @@ use borrow.Author.Needs.{needs}
 use Prim.Native.Nat.{_^_}
 use native.Mathlib.Omega.{arith}
 use Rattle.std.proofs.shelf.Signed.{toZ-ofZ}
-use Rattle.account.specs.Accounts.{span}
+use Rattle.network.specs.Net.{span}
 use Rattle.account.proofs.Totals.{so-far-all, reach-more}
 use Rattle.account.proofs.sums.reach.Needs as need
 

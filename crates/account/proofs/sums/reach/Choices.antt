@@ -1,5 +1,5 @@
 use Prim.Native.Nat.{_^_}
-use Rattle.account.specs.Accounts.{span}
+use Rattle.network.specs.Net.{span}
 use Rattle.account.proofs.Totals.{So-far}
 use Rattle.account.proofs.sums.reach.Given as given
 
