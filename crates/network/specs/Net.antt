@@ -55,3 +55,7 @@ pub record Lawful (n : Net) : Type 0 where
 -- one node without chests, no arcs
 abbrev pub blank : Net
 blank = record { stocks = pos 0 ∷ []; roads = []; fixed = (pos 0, pos 0) }
+
+-- what rows of roads and stocks mean: no fixed costs
+abbrev pub rowsNet : List Road → List ℤ → Net
+rowsNet roads stocks = record { stocks = stocks; roads = roads; fixed = (pos 0, pos 0) }
