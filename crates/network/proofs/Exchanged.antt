@@ -23,13 +23,13 @@ sumBy-mapped f g change e (r ∷ rs) =
 
 pub exchanged-lawful : (n : Net) → Lawful n → Lawful (exchanged n)
 exchanged-lawful n h = record {
-    some = h .some;
-    nodes = h .nodes;
-    arcs = subst (λ k. k ≤ max-arcs) (sym (length-map (n .roads) swapped)) (h .arcs);
-    ranged = all-map (Ranged (nodeCount n)) swapped (n .roads)
+  some = h .some;
+  nodes = h .nodes;
+  arcs = subst (λ k. k ≤ max-arcs) (sym (length-map (n .roads) swapped)) (h .arcs);
+  ranged = all-map (Ranged (nodeCount n)) swapped (n .roads)
       (all-weaker (Ranged (nodeCount n)) (λ r. Ranged (nodeCount n) (swapped r)) (λ r g. record { tail = g .tail; head = g .head; least = g .least; most = g .most; first = g .second; second = g .first }) (n .roads) (h .ranged));
-    passable = all-map Passable swapped (n .roads) (all-weaker Passable (λ r. Passable (swapped r)) (λ r g. record { apart = g .apart; room = g .room }) (n .roads) (h .passable));
-    node = λ v l. omega (arith, h .node v l, sumBy-mapped (touch v) (touch v) swapped (λ r. refl) (n .roads));
-    first = omega (arith, h .second, sumBy-mapped (span (λ r. r .first)) (span (λ r. r .second)) swapped (λ r. refl) (n .roads));
-    second = omega (arith, h .first, sumBy-mapped (span (λ r. r .second)) (span (λ r. r .first)) swapped (λ r. refl) (n .roads))
-  }
+  passable = all-map Passable swapped (n .roads) (all-weaker Passable (λ r. Passable (swapped r)) (λ r g. record { apart = g .apart; room = g .room }) (n .roads) (h .passable));
+  node = λ v l. omega (arith, h .node v l, sumBy-mapped (touch v) (touch v) swapped (λ r. refl) (n .roads));
+  first = omega (arith, h .second, sumBy-mapped (span (λ r. r .first)) (span (λ r. r .second)) swapped (λ r. refl) (n .roads));
+  second = omega (arith, h .first, sumBy-mapped (span (λ r. r .second)) (span (λ r. r .first)) swapped (λ r. refl) (n .roads));
+}

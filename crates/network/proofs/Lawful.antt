@@ -45,12 +45,12 @@ reach-le cost n roads near h =
 pub rows-lawful : (roads : List Road) (stocks : List ℤ) → 0 < length stocks → length stocks ≤ max-nodes → length roads ≤ max-arcs → All (Near max-stock) stocks
     → All (Ranged (length stocks)) roads → All Passable roads → Lawful (rowsNet roads stocks)
 rows-lawful roads stocks some few arcs near ranged passable = record {
-    some = some;
-    nodes = few;
-    arcs = arcs;
-    ranged = ranged;
-    passable = passable;
-    node = λ v l. omega (arith, near-distance max-stock (getD stocks v (pos 0)) (all-getD (Near max-stock) stocks v (pos 0) l near), touching-le v (length stocks) roads ranged);
-    first = omega (arith, reach-le (λ r. r .first) (length stocks) roads (λ r g. g .first) ranged);
-    second = omega (arith, reach-le (λ r. r .second) (length stocks) roads (λ r g. g .second) ranged)
-  }
+  some = some;
+  nodes = few;
+  arcs = arcs;
+  ranged = ranged;
+  passable = passable;
+  node = λ v l. omega (arith, near-distance max-stock (getD stocks v (pos 0)) (all-getD (Near max-stock) stocks v (pos 0) l near), touching-le v (length stocks) roads ranged);
+  first = omega (arith, reach-le (λ r. r .first) (length stocks) roads (λ r g. g .first) ranged);
+  second = omega (arith, reach-le (λ r. r .second) (length stocks) roads (λ r g. g .second) ranged);
+}

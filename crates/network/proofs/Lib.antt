@@ -1,3 +1,5 @@
 pub mod Refusals
 pub mod Lawful
 pub mod Exchanged
+pub mod Places
+pub mod Tested

@@ -1,0 +1,2 @@
+// Layers that leave roads and stocks in their places.
+pub mod exchange;
