@@ -10,8 +10,11 @@ use lib.IntN.{ℤ, pos}
 use lib.ListN.{length, getD, set}
 use Rattle.std.specs.shelf.Lists.{All}
 use Rattle.std.proofs.shelf.Lists.{getD-set-same, getD-set-other}
+use Rattle.std.proofs.shelf.Signed.{ints}
 use Rattle.std.proofs.shelf.Tests.{eq-eqb, ne-eqb, eqb-true, cond-true, cond-false, cases-bool, cases-eq, or-parts, or-from, true≢false}
-use Rattle.text.specs.Consignment.{named, stockOf, Once}
+use Rattle.network.specs.Limits.{max-stock}
+use Rattle.network.specs.Roads.{Near}
+use Rattle.text.specs.Consignment.{named, stockOf, Once, Stocked}
 
 or-assoc : (a b c : Bool) → (a || (b || c)) ≡ ((a || b) || c)
 or-assoc true b c = refl
@@ -70,3 +73,15 @@ marks-more row es s n len inside h i l =
     (λ ne. getD-set-other row (s .0) i true false ne ∙ h i l
     ∙ sym (named-more es s i ∙ ap (λ b. named es i || b) (ne-eqb (s .0) i (λ e. ne (sym e))) ∙ or-right-false (named es i)))
     (cases-eq i (s .0))
+
+-- each stock is within its limit
+near-zero : Near max-stock (pos 0)
+near-zero = (grind (arith, ints), grind (arith, ints))
+
+near-cond : (b : Bool) (x y : ℤ) → Near max-stock x → Near max-stock y → Near max-stock (cond b x y)
+near-cond true x y h k = h
+near-cond false x y h k = k
+
+pub stock-near : (n : ℕ) (es : List (ℕ × ℤ)) (i : ℕ) → All (Stocked n) es → Near max-stock (stockOf es i)
+stock-near n [] i h = near-zero
+stock-near n (e ∷ es) i h = near-cond (eqb (e .0) i) (e .1) (stockOf es i) (h .0 .amount) (stock-near n es i (h .1))

@@ -4,9 +4,11 @@ use mathlib.Core.List.{List, _++_}
 use Prim.Native.Nat.{ℕ, _≤_}
 use lib.IntN.{ℤ}
 use lib.ListN.{length, drop}
+use Rattle.std.specs.declared.option.Option.the-variants.{None}
 use Rattle.std.specs.declared.result.Result.{Result}
 use Rattle.std.specs.declared.result.Result.the-variants.{Ok, Err}
 use Rattle.network.specs.Limits.{max-text}
+use Rattle.network.specs.Tested.{rowFault}
 use Rattle.network.specs.declared.refusal.Refusal.{Refusal}
 use Rattle.network.specs.declared.road.Road.{Road}
 use Rattle.text.specs.declared.sizes.Sizes.{Sizes}
@@ -26,6 +28,8 @@ pub record Taken (text : List ℕ) (n m : ℕ) (road-row road-row′ : List Road
   pub stocks : List ℤ
   pub roads : List Road
   pub consignment : Is-consignment text n m stocks roads
+  -- a table over these rows passes its test, so it means this consignment
+  pub tested : rowFault roads stocks ≡ None
   pub filled : Filled n m stocks roads road-row road-row′ stock-row stock-row′
 
 -- the consignment, or the first fault and rows as they were
