@@ -5,3 +5,4 @@ pub mod Net
 pub mod Exchanged
 pub mod Floored
 pub mod Capped
+pub mod Gridded
