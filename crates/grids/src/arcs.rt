@@ -6,11 +6,11 @@ ghost use Rattle.network.specs.Limits.{max-side};
 use crate::grid::Grid;
 use network::road::Road;
 
-// The mosts of the arcs go from 1 to this, round and round.
+// Mosts go from 1 to this.
 const MOSTS: u32 = 5;
-// So do their costs, of which there are so many.
+// Both costs take so many values: the first from zero up, the second from `BELOW` under zero.
 const COSTS: u32 = 7;
-// The second cost begins so far below zero.
+
 const BELOW: i32 = 3;
 
 impl Grid {

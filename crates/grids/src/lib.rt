@@ -3,3 +3,5 @@ mod arcs;
 pub mod asked;
 pub mod grid;
 mod made;
+#[cfg(test)]
+mod tests;

@@ -97,8 +97,8 @@ counted : {X : Type 0} (f : ℕ → X) (P : X → Type 0) (n : ℕ) → ((i : �
 counted f P n holds =
     all-from-getD P (map f (counting 0 n)) (f 0)
     (λ i h.
-      let below : i < n = omega (arith, length-map-counting f 0 n) in
-      subst P (sym (getD-map-counting f 0 n i i (f 0) below (zero-add i))) (holds i below))
+    let below : i < n = omega (arith, length-map-counting f 0 n) in
+    subst P (sym (getD-map-counting f 0 n i i (f 0) below (zero-add i))) (holds i below))
 
 -- crude bounds, from the limits of each road
 abs-near : (far : ℕ) (z : ℤ) → Near far z → natAbs z ≤ far
@@ -109,42 +109,50 @@ touch-le : (nodes v : ℕ) (r : Road) → Good nodes r → touch v r ≤ max-mos
 touch-le nodes v r good =
     cond-both (eqb (r .tail) v || eqb (r .head) v) (r .most) 0 (λ n. n ≤ max-most) (λ _. good .ranged .most) (λ _. omega arith)
 
+touching-le : (nodes v : ℕ) (roads : List Road) → All (Good nodes) roads → touching v roads ≤ length roads * max-most
+touching-le nodes v roads good =
+    sumBy-le (touch v) max-most roads (all-weaker (Good nodes) (λ r. touch v r ≤ max-most) (touch-le nodes v) roads good)
+
 span-le : (cost : Road → ℤ) (r : Road) → r .most ≤ max-most → Near max-cost (cost r) → span cost r ≤ max-most * max-cost
 span-le cost r most near = mul-le (r .most) (natAbs (cost r)) max-most max-cost most (abs-near max-cost (cost r) near)
 
-stock-le : (nodes chests v : ℕ) → natAbs (gridStock nodes chests v) ≤ chests
-stock-le nodes chests v =
+reach-le : (nodes : ℕ) (cost : Road → ℤ) → ((r : Road) → Good nodes r → Near max-cost (cost r)) → (roads : List Road) → All (Good nodes) roads → reachOf cost roads ≤ length roads * (max-most * max-cost)
+reach-le nodes cost near roads good =
+    sumBy-le (span cost) (max-most * max-cost) roads
+    (all-weaker (Good nodes) (λ r. span cost r ≤ max-most * max-cost) (λ r g. span-le cost r (g .ranged .most) (near r g)) roads good)
+
+stock-near : (nodes chests v : ℕ) → natAbs (gridStock nodes chests v) ≤ chests
+stock-near nodes chests v =
     let offer : offered chests v ≤ chests = cond-both (eqb v 0) chests 0 (λ n. n ≤ chests) (λ _. omega arith) (λ _. omega arith) in
     let want : wanted nodes chests v ≤ chests = cond-both (eqb (v + 1) nodes) chests 0 (λ n. n ≤ chests) (λ _. omega arith) (λ _. omega arith) in
     abs-near chests (gridStock nodes chests v) (omega (arith, ints), omega (arith, ints))
 
+stock-le : (nodes chests v : ℕ) → v < nodes → natAbs (getD (map (gridStock nodes chests) (counting 0 nodes)) v (pos 0)) ≤ chests
+stock-le nodes chests v below =
+    let here = getD-map-counting (gridStock nodes chests) 0 nodes v v (pos 0) below (zero-add v) in
+    subst (λ z. natAbs z ≤ chests) (sym here) (stock-near nodes chests v)
+
+-- 14 × 13 arcs each way at the most
 arcs-le : (rows columns : ℕ) → rows ≤ max-side → columns ≤ max-side → gridArcs rows columns ≤ 364
 arcs-le rows columns tall wide =
-    omega (arith, mul-le rows (columns - 1) 14 13 (omega arith) (omega arith), mul-le (rows - 1) columns 13 14 (omega arith) (omega arith))
+    omega (arith, mul-le rows (columns - 1) 14 13 tall (omega arith), mul-le (rows - 1) columns 13 14 (omega arith) wide)
 
 pub gridded-lawful : (rows columns chests : ℕ) → Side rows → Side columns → chests ≤ max-grid-chests → Lawful (gridded rows columns chests)
 gridded-lawful rows columns chests tall wide few =
+    let nodes = rows * columns in
     let net = gridded rows columns chests in
     let roads = net .roads in
-    let nodes : length (net .stocks) ≡ rows * columns = length-map-counting (gridStock (rows * columns) chests) 0 (rows * columns) in
-    let arcs : length roads ≡ gridArcs rows columns = length-map-counting (gridArc rows columns) 0 (gridArcs rows columns) in
+    let all-nodes : length (net .stocks) ≡ nodes = length-map-counting (gridStock nodes chests) 0 nodes in
+    let all-arcs : length roads ≡ gridArcs rows columns = length-map-counting (gridArc rows columns) 0 (gridArcs rows columns) in
     let short : length roads ≤ 364 = omega (arith, arcs-le rows columns (tall .1) (wide .1)) in
-    let good : All (Good (rows * columns)) roads = counted (gridArc rows columns) (Good (rows * columns)) (gridArcs rows columns) (grid-arc rows columns) in
-    let reach : (cost : Road → ℤ) → ((r : Road) → Good (rows * columns) r → Near max-cost (cost r)) → reachOf cost roads ≤ length roads * (max-most * max-cost) =
-          λ cost near. sumBy-le (span cost) (max-most * max-cost) roads (all-weaker (Good (rows * columns)) (λ r. span cost r ≤ max-most * max-cost) (λ r g. span-le cost r (g .ranged .most) (near r g)) roads good) in
+    let good : All (Good nodes) roads = counted (gridArc rows columns) (Good nodes) (gridArcs rows columns) (grid-arc rows columns) in
     record {
       some = omega (arith, mul-le 1 1 rows columns (tall .0) (wide .0));
       nodes = omega (arith, mul-le rows columns 14 14 (tall .1) (wide .1));
       arcs = omega arith;
-      ranged = subst (λ n. All (Ranged n) roads) (sym nodes) (all-weaker (Good (rows * columns)) (Ranged (rows * columns)) (λ r g. g .ranged) roads good);
-      passable = all-weaker (Good (rows * columns)) Passable (λ r g. g .passable) roads good;
-      node = λ v h.
-        let below : v < rows * columns = omega arith in
-        let stock : natAbs (getD (net .stocks) v (pos 0)) ≤ chests =
-              subst (λ z. natAbs z ≤ chests) (sym (getD-map-counting (gridStock (rows * columns) chests) 0 (rows * columns) v v (pos 0) below (zero-add v))) (stock-le (rows * columns) chests v) in
-        let touches : touching v roads ≤ length roads * max-most =
-              sumBy-le (touch v) max-most roads (all-weaker (Good (rows * columns)) (λ r. touch v r ≤ max-most) (touch-le (rows * columns) v) roads good) in
-        omega arith;
-      first = omega (arith, reach (λ r. r .first) (λ r g. g .ranged .first));
-      second = omega (arith, reach (λ r. r .second) (λ r g. g .ranged .second));
+      ranged = subst (λ n. All (Ranged n) roads) (sym all-nodes) (all-weaker (Good nodes) (Ranged nodes) (λ r g. g .ranged) roads good);
+      passable = all-weaker (Good nodes) Passable (λ r g. g .passable) roads good;
+      node = λ v h. omega (arith, stock-le nodes chests v (omega arith), touching-le nodes v roads good);
+      first = omega (arith, reach-le nodes (λ r. r .first) (λ r g. g .ranged .first) roads good);
+      second = omega (arith, reach-le nodes (λ r. r .second) (λ r g. g .ranged .second) roads good);
     }
