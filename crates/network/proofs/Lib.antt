@@ -1,5 +1,6 @@
 pub mod Refusals
-pub mod Lawful
-pub mod Exchanged
 pub mod Places
+pub mod Lawful
 pub mod Tested
+pub mod Exchanged
+pub mod Gridded

@@ -6,3 +6,4 @@ pub mod Tested
 pub mod Exchanged
 pub mod Floored
 pub mod Capped
+pub mod Gridded

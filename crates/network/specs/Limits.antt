@@ -32,3 +32,11 @@ max-node = 2000000
 -- for each cost, the fixed cost's distance from zero plus the sum of most × the cost's distance from zero
 abbrev pub max-reach : ℕ
 max-reach = 1000000000
+
+-- rows and columns of a grid, from 1
+abbrev pub max-side : ℕ
+max-side = 14
+
+-- chests of a grid, from 0
+abbrev pub max-grid-chests : ℕ
+max-grid-chests = 1000

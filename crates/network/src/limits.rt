@@ -1,6 +1,6 @@
 // Every limit of a consignment, once. `specs/Limits.antt` has the same numbers for the contracts.
 ghost use mathlib.Core.Path.{_≡_};
-ghost use Rattle.network.specs.Limits.{max-nodes, max-arcs, max-stock, max-most, max-cost, max-text, max-node, max-reach};
+ghost use Rattle.network.specs.Limits.{max-nodes, max-arcs, max-stock, max-most, max-cost, max-text, max-node, max-reach, max-side, max-grid-chests};
 
 /// Nodes of a network: from 1 to this.
 pub const MAX_NODES: usize = 200;
@@ -20,6 +20,11 @@ pub const MAX_NODE: u32 = 2_000_000;
 /// For each cost, the fixed cost's distance from zero plus the sum of most × the cost's distance from zero.
 pub const MAX_REACH: u64 = 1_000_000_000;
 
+/// Rows and columns of a grid: from 1 to this.
+pub const MAX_SIDE: u32 = 14;
+/// Chests of a grid: from 0 to this.
+pub const MAX_GRID_CHESTS: u32 = 1_000;
+
 /// All limits at once.
 #[derive(Clone, Copy)]
 pub struct Limits {
@@ -31,11 +36,13 @@ pub struct Limits {
     pub text: usize,
     pub node: u32,
     pub reach: u64,
+    pub side: u32,
+    pub chests: u32,
 }
 
 /// The limits of the code, which are those of the contracts.
 pub fn all_limits() -> Limits
-    ensures { λ r. ⌜ r ≡ record { nodes = max-nodes; arcs = max-arcs; stock = max-stock; most = max-most; cost = max-cost; text = max-text; node = max-node; reach = max-reach } ⌝ }
+    ensures { λ r. ⌜ r ≡ record { nodes = max-nodes; arcs = max-arcs; stock = max-stock; most = max-most; cost = max-cost; text = max-text; node = max-node; reach = max-reach; side = max-side; chests = max-grid-chests } ⌝ }
 {
     Limits {
         nodes: MAX_NODES,
@@ -46,5 +53,7 @@ pub fn all_limits() -> Limits
         text: MAX_TEXT,
         node: MAX_NODE,
         reach: MAX_REACH,
+        side: MAX_SIDE,
+        chests: MAX_GRID_CHESTS,
     }
 }
