@@ -3,4 +3,5 @@ pub mod Places
 pub mod Lawful
 pub mod Tested
 pub mod Exchanged
+pub mod Floored
 pub mod Gridded
