@@ -1,7 +1,7 @@
 // The network with both costs exchanged.
 ghost use mathlib.Core.Path.{_≡_};
 ghost use Rattle.std.specs.Finite.{nth};
-ghost use Rattle.network.specs.Net.{sizeOf};
+ghost use Rattle.network.specs.Net.{Net, sizeOf};
 ghost use Rattle.network.specs.Exchanged.{swapped, exchanged};
 ghost use Rattle.network.proofs.Exchanged.{exchanged-lawful};
 use network::interface::Network;
@@ -64,3 +64,8 @@ fn turned(size: Size) -> Size
         ..size
     }
 }
+
+/// Exchanging twice means the network below.
+pub fn exchange_twice_stands()
+    ensures { λ _. ⌜ ((n : Net) → exchanged (exchanged n) ≡ n) ⌝ }
+{}

@@ -33,3 +33,11 @@ exchanged-lawful n h = record {
   first = omega (arith, h .second, sumBy-mapped (span (λ r. r .first)) (span (λ r. r .second)) swapped (λ r. refl) (n .roads));
   second = omega (arith, h .first, sumBy-mapped (span (λ r. r .second)) (span (λ r. r .first)) swapped (λ r. refl) (n .roads));
 }
+
+-- twice is not at all
+swapped-twice : (rs : List Road) → map swapped (map swapped rs) ≡ rs
+swapped-twice [] = refl
+swapped-twice (r ∷ rs) = ap (λ l. r ∷ l) (swapped-twice rs)
+
+pub exchanged-twice : (n : Net) → exchanged (exchanged n) ≡ n
+exchanged-twice n = ap (λ l. record { stocks = n .stocks; roads = l; fixed = n .fixed }) (swapped-twice (n .roads))

@@ -15,11 +15,13 @@ loop-i-again g c =
     let same = c .loop-i .inv .0 in
     let asked = ap (λ m. nth (m .roads) (c .loop-i .i)) same in
     let n : c .size-arcs .result .arcs ≡ length roads = ap (λ s. s .arcs) (c .size-arcs .ensures .value) ∙ ap arcCount (sym (c .size-arcs .ensures .same)) in
-    let room = ap (λ s. s .arcs) (c .size-arcs .ensures .value) in
-    (c .arc .ensures .same ∙ same, elim (c .match-arc .came) [
-      in-Some w ↦ w .row-is ∙ copied-more roads (c .args .row .now) (c .loop-i .row) (c .loop-i .i) (w .in-Some .road) (w .in-Some .ensures tt .value ∙ asked) (omega arith) (c .loop-i .inv .1)
-    | in-rest w ↦ absurd (omega (arith, nth-none roads (c .loop-i .i) (w .in-rest .ensures tt .value ∙ asked)))
-    ])
+    let room = ap (λ s. s .arcs) (c .size-arcs .ensures .value) in (
+      c .arc .ensures .same ∙ same,
+      elim (c .match-arc .came) [
+        | in-Some w ↦ w .row-is ∙ copied-more roads (c .args .row .now) (c .loop-i .row) (c .loop-i .i) (w .in-Some .road) (w .in-Some .ensures tt .value ∙ asked) (omega arith) (c .loop-i .inv .1)
+        | in-rest w ↦ absurd (omega (arith, nth-none roads (c .loop-i .i) (w .in-rest .ensures tt .value ∙ asked)))
+      ],
+    )
 
 pub returns : need.returns
 returns g c =
@@ -30,5 +32,5 @@ returns g c =
       count = n;
       same = c .loop-i .inv .0 ∙ came;
       after = copied-all (g .N·Network .meaning (c .args .network .now) .roads) (c .args .row .now) (c .loop-i .row) (c .loop-i .i) (c .size-arcs .result .arcs) e n
-        (c .loop-i .inv .1 ∙ ap (λ m. take (c .loop-i .i) (m .roads) ++ drop (c .loop-i .i) (c .args .row .now)) came)
+          (c .loop-i .inv .1 ∙ ap (λ m. take (c .loop-i .i) (m .roads) ++ drop (c .loop-i .i) (c .args .row .now)) came);
     }

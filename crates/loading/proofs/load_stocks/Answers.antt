@@ -22,11 +22,13 @@ loop-i-again g c =
     let same = c .loop-i .inv .0 in
     let asked = ap (λ m. nth (m .stocks) (c .loop-i .i)) same in
     let n : c .size-nodes .result .nodes ≡ length stocks = ap (λ s. s .nodes) (c .size-nodes .ensures .value) ∙ ap nodeCount (sym (c .size-nodes .ensures .same)) in
-    let room = ap (λ s. s .nodes) (c .size-nodes .ensures .value) in
-    (c .stock .ensures .same ∙ same, elim (c .match-stock .came) [
-      in-Some w ↦ w .row-is ∙ ap (set (c .loop-i .row) (c .loop-i .i)) (let f : SFits w64 (w .in-Some .stock) = search needs in let h : SFits w32 (w .narrow .result) = search needs in toZ-ofZ w32 (w .narrow .result) h ∙ w .narrow .ensures ∙ toZ-ofZ w64 (w .in-Some .stock) f) ∙ copied-more stocks (c .args .row .now) (c .loop-i .row) (c .loop-i .i) (w .in-Some .stock) (w .in-Some .ensures tt .value ∙ asked) (omega arith) (c .loop-i .inv .1)
-    | in-rest w ↦ absurd (omega (arith, nth-none stocks (c .loop-i .i) (w .in-rest .ensures tt .value ∙ asked)))
-    ])
+    let room = ap (λ s. s .nodes) (c .size-nodes .ensures .value) in (
+      c .stock .ensures .same ∙ same,
+      elim (c .match-stock .came) [
+        | in-Some w ↦ w .row-is ∙ ap (set (c .loop-i .row) (c .loop-i .i)) (let f : SFits w64 (w .in-Some .stock) = search needs in let h : SFits w32 (w .narrow .result) = search needs in toZ-ofZ w32 (w .narrow .result) h ∙ w .narrow .ensures ∙ toZ-ofZ w64 (w .in-Some .stock) f) ∙ copied-more stocks (c .args .row .now) (c .loop-i .row) (c .loop-i .i) (w .in-Some .stock) (w .in-Some .ensures tt .value ∙ asked) (omega arith) (c .loop-i .inv .1)
+        | in-rest w ↦ absurd (omega (arith, nth-none stocks (c .loop-i .i) (w .in-rest .ensures tt .value ∙ asked)))
+      ],
+    )
 
 pub returns : need.returns
 returns g c =
@@ -37,7 +39,7 @@ returns g c =
       count = n;
       same = c .loop-i .inv .0 ∙ came;
       after = copied-all (g .N·Network .meaning (c .args .network .now) .stocks) (c .args .row .now) (c .loop-i .row) (c .loop-i .i) (c .size-nodes .result .nodes) e n
-        (c .loop-i .inv .1 ∙ ap (λ m. take (c .loop-i .i) (m .stocks) ++ drop (c .loop-i .i) (c .args .row .now)) came)
+          (c .loop-i .inv .1 ∙ ap (λ m. take (c .loop-i .i) (m .stocks) ++ drop (c .loop-i .i) (c .args .row .now)) came);
     }
 
 pub narrow-requires : need.narrow-requires
