@@ -10,17 +10,20 @@ use lib.ListN.{length, getD, set}
 use Rattle.std.specs.Finite.{nth}
 use Rattle.std.specs.declared.option.Option.{Option}
 use Rattle.std.specs.declared.option.Option.the-variants.{Some, None}
-use Rattle.std.specs.shelf.Lists.{countBy}
+use Rattle.std.specs.declared.result.Result.{Result}
+use Rattle.std.specs.declared.result.Result.the-variants.{Ok, Err}
+use Rattle.std.specs.shelf.Lists.{All, countBy}
 use Rattle.std.proofs.shelf.Lists.{length-set, getD-set-same, getD-set-other}
 use Rattle.std.proofs.shelf.Maps.{nth-past}
 use Rattle.std.proofs.shelf.Sums.{sumBy-cons, countBy-le-length}
-use Rattle.std.proofs.shelf.Tests.{eq-eqb, ne-eqb, eqb-true, lt-ltb, le-ltb, le-leb, lt-leb, cond-true, cond-false, cases-eq, cases-lt, not-true, and-parts, and-left, and-right, not-from-true, not-from-false, both-ways}
+use Rattle.std.proofs.shelf.Tests.{eq-eqb, ne-eqb, leb-true, lt-ltb, le-ltb, le-leb, lt-leb, cond-true, cond-false, cases-eq, cases-lt, not-true, and-parts, and-left, and-right, not-from-true, not-from-false, both-ways}
 use Rattle.network.specs.Capped.{within, bounded, boundedFrom}
 use Rattle.network.specs.Limits.{max-arcs}
 use Rattle.network.specs.Roads.{withMost}
+use Rattle.network.specs.declared.refusal.Refusal.{Refusal}
 use Rattle.network.specs.declared.road.Road.{Road}
 use Rattle.network.proofs.Capped.{set-bounded}
-use Rattle.caps.specs.Caps.{place-count, free, capOf, Once, Unnamed, Names, nothingAt, idle, Idles, Busy, capsOther, faultAt, capFault, Recapped}
+use Rattle.caps.specs.Caps.{place-count, free, capOf, Once, Unnamed, Names, nothingAt, idle, Idles, Busy, capsOther, faultAt, capFault, Recapped, Answers, Does, Lowers}
 use Rattle.caps.specs.declared.places.CapEntry.{CapEntry}
 use Rattle.caps.proofs.Rows.{cap-first, cap-none, cap-other, once-apart}
 
@@ -28,6 +31,12 @@ use Rattle.caps.proofs.Rows.{cap-first, cap-none, cap-other, once-apart}
 pub arc-small : (roads : List Road) (a : ℕ) (r : Road) → length roads ≤ max-arcs → nth roads a ≡ Some r → a < max-arcs
 arc-small roads a r few at =
     elim (cases-lt a (length roads)) [ inl l ↦ omega arith | inr past ↦ let gone = nth-past roads a past in let z : _≡_ {A = ℕ} 0 1 = cc in absurd (omega arith) ]
+
+-- what holds of every road holds of an arc's
+pub road-of : (P : Road → Type 0) (roads : List Road) (a : ℕ) (r : Road) → All P roads → nth roads a ≡ Some r → P r
+road-of P [] a r h at = let z : _≡_ {A = ℕ} 0 1 = cc in absurd (omega arith)
+road-of P (x ∷ roads) zero r h at = let q : x ≡ r = cc in subst P q (h .0)
+road-of P (x ∷ roads) (suc a) r h at = road-of P roads a r (h .1) at
 
 -- a place that is written is no other's
 other-place : (es : List CapEntry) (p k : ℕ) (e : CapEntry) → (k ≡ p → ⊥) → getD (set es p e) k free .arc ≡ getD es k free .arc
@@ -194,3 +203,16 @@ no-place others a u roads r at fit low full =
     ap (λ o. faultAt others o u) (sym at) ∙ cond-true (within r u) _ (Some 2) fit
     ∙ cond-true (ltb u (r .most) && leb place-count others) (Some 3) None
       (ap (λ b. b && leb place-count others) (lt-ltb u (r .most) low) ∙ le-leb place-count others full)
+
+-- a cap below the most, as any cap
+pub lowers-does : (res : Result (Unit {0}) Refusal) (Same : Type 0) (es es′ : List CapEntry) (roads : List Road) (a u : ℕ) (r : Road) → Some r ≡ nth roads a → Lowers res Same es es′ roads a u r → Does res Same es es′ roads a u
+lowers-does (Ok x) Same es es′ roads a u r at h = λ s is. let q : r ≡ s = cc in subst (Recapped es es′ roads a u) q (h .1)
+lowers-does (Err e) Same es es′ roads a u r at h = h .2
+
+pub lowers-answers : (res : Result (Unit {0}) Refusal) (Same : Type 0) (es es′ : List CapEntry) (roads : List Road) (a u : ℕ) (r : Road) → Some r ≡ nth roads a → within r u ≡ true → u < r .most
+    → Lowers res Same es es′ roads a u r → Answers res (capFault es roads a u)
+lowers-answers (Ok x) Same es es′ roads a u r at fit low h = no-fault (countBy (capsOther roads a) es) a u roads r at fit (inr (h .0))
+lowers-answers (Err e) Same es es′ roads a u r at fit low h = (3, no-place (countBy (capsOther roads a) es) a u roads r at fit low (h .0), h .1)
+
+pub within-below : (r : Road) (u : ℕ) → within r u ≡ true → (u ≡ r .most → ⊥) → u < r .most
+within-below r u fit apart = let h = leb-true u (r .most) (and-parts (leb (r .least) u) (leb u (r .most)) fit .1) in omega arith

@@ -2,12 +2,14 @@
 use mathlib.Core.Bool.{Bool, true, false, not, cond, _&&_}
 use mathlib.Core.List.{List, [], _∷_}
 use mathlib.Core.Path.{_≡_}
-use Prim.Native.Nat.{ℕ, _<_}
+use Prim.Native.Nat.{ℕ, _<_, _≤_}
 use lib.Dec.{eqb, leb, ltb}
 use lib.ListN.{length, getD, set}
 use Rattle.std.specs.Finite.{nth}
+use Rattle.std.specs.Results.{Cases}
 use Rattle.std.specs.declared.option.Option.{Option}
 use Rattle.std.specs.declared.option.Option.the-variants.{Some, None}
+use Rattle.std.specs.declared.result.Result.{Result}
 use Rattle.std.specs.shelf.Lists.{countBy}
 use Rattle.network.specs.Capped.{within, boundedFrom}
 use Rattle.network.specs.Refusals.{Says}
@@ -77,6 +79,15 @@ pub record Recapped (es es′ : List CapEntry) (roads : List Road) (a u : ℕ) (
   pub own : capOf es′ a ≡ cond (ltb u (r .most)) (Some u) None
   pub others : (k : ℕ) → k < place-count → capsOther roads a (getD es k free) ≡ true → getD es′ k free ≡ getD es k free
 
--- the refusal has the number of the fault, and no place
-abbrev pub Refuses : Refusal → Option ℕ → Type 0
-Refuses e fault = (k : ℕ) × (fault ≡ Some k) × Says e k
+-- the answer of a cap: none where there is no fault, else the refusal of its number
+abbrev pub Answers : Result (Unit {0}) Refusal → Option ℕ → Type 0
+Answers res fault = Cases res (λ _. fault ≡ None) (λ e. (k : ℕ) × (fault ≡ Some k) × Says e k)
+
+-- what a cap does: a refusal leaves the same
+abbrev pub Does : Result (Unit {0}) Refusal → Type 0 → List CapEntry → List CapEntry → List Road → ℕ → ℕ → Type 0
+Does res Same es es′ roads a u = Cases res (λ _. (r : Road) → nth roads a ≡ Some r → Recapped es es′ roads a u r) (λ _. Same)
+
+-- what a cap below the most does: it is refused only where every place caps another arc
+abbrev pub Lowers : Result (Unit {0}) Refusal → Type 0 → List CapEntry → List CapEntry → List Road → ℕ → ℕ → Road → Type 0
+Lowers res Same es es′ roads a u r =
+    Cases res (λ _. (countBy (capsOther roads a) es < place-count) × Recapped es es′ roads a u r) (λ e. (place-count ≤ countBy (capsOther roads a) es) × Says e 3 × Same)

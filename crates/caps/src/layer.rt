@@ -1,16 +1,20 @@
 // The network below with lower mosts on the arcs that are capped.
 ghost use mathlib.Core.Path.{_≡_};
-ghost use lib.ListN.{length, getD};
+ghost use mathlib.Core.Bool.{true};
+ghost use Prim.Native.Nat.{_<_};
 ghost use Rattle.std.specs.Finite.{nth};
-ghost use Rattle.std.specs.Of.Vec.{vec-items, vec-len};
-ghost use Rattle.std.specs.Options.{Cases as BySome};
-ghost use Rattle.network.specs.Capped.{within, bounded, capped};
+ghost use Rattle.std.specs.Of.Vec.{vec-items};
+ghost use Rattle.std.specs.declared.option.Option.the-variants.{Some};
+ghost use Rattle.network.specs.Capped.{within, capped};
 ghost use Rattle.network.proofs.Capped.{capped-lawful};
-ghost use Rattle.caps.specs.Caps.{capOf, idle, Idles, Busy};
+ghost use Rattle.caps.specs.Caps.{capOf, capFault, Recapped, Answers, Does, Lowers};
+use crate::asks::bounded_by;
+use crate::asks::idle_place;
+use crate::asks::may_carry;
 use crate::places::CapEntry;
-use crate::places::PLACES;
 use crate::table::CapTable;
 use network::interface::Network;
+use network::refusal::Refusal;
 use network::road::Road;
 use network::size::Size;
 
@@ -53,46 +57,58 @@ pub impl<N: Network> Network for Cap<N> as CapNetwork {
     }
 }
 
-/// Whether the road may carry the amount.
-fn may_carry(road: &Road, amount: u32) -> bool
-    ensures { λ r. ⌜ r ≡ within (now (road .entry)) amount ⌝ }
-{
-    road.least <= amount && amount <= road.most
-}
-
-/// The road with the amount as its most, if it may carry that.
-fn bounded_by(amount: Option<u16>, road: Road) -> Road
-    ensures { λ r. ⌜ r ≡ bounded amount road ⌝ }
-{
-    match amount {
-        Some(amount) if may_carry(&road, u32::from(amount)) => Road {
-            most: u32::from(amount),
-            ..road
-        },
-        _ => road,
+impl<N: Network> Cap<N> {
+    /// Makes the amount the most of the arc. At the most below, the cap is lifted and its place is free again.
+    ///
+    /// Refused where there is no such arc below, where that arc may not carry the amount, or where every place caps another arc; then nothing changes.
+    pub fn cap(&mut self, arc: usize, amount: u32) -> Result<(), Refusal>
+        ensures done { λ r. ⌜ Does r (now (self .exit) .table ≡ now (self .entry) .table) (vec-items (now (self .entry) .table .places .entries)) (vec-items (now (self .exit) .table .places .entries)) (N·Network .meaning (now (self .entry) .below) .roads) arc amount ⌝ }
+        ensures answer { λ r. ⌜ Answers r (capFault (vec-items (now (self .entry) .table .places .entries)) (N·Network .meaning (now (self .entry) .below) .roads) arc amount) ⌝ }
+        ensures same { λ _. ⌜ N·Network .meaning (now (self .exit) .below) ≡ N·Network .meaning (now (self .entry) .below) ⌝ }
+    {
+        let Some(road) = self.below.arc(arc) else {
+            return Err(Refusal::NoSuchArc);
+        };
+        if !may_carry(&road, amount) {
+            return Err(Refusal::CapRange);
+        }
+        if amount == road.most {
+            self.lift(arc, road);
+            return Ok(());
+        }
+        self.lower(arc, amount, road)
     }
-}
 
-/// Whether the entry caps nothing over the network.
-fn caps_nothing<N: Network>(below: &mut N, entry: CapEntry) -> bool
-    ensures value { λ r. ⌜ r ≡ idle (N·Network .meaning (now (below .entry)) .roads) entry ⌝ }
-    ensures same { λ _. ⌜ N·Network .meaning (now (below .exit)) ≡ N·Network .meaning (now (below .entry)) ⌝ }
-{
-    match below.arc(usize::from(entry.arc)) {
-        Some(road) => !may_carry(&road, u32::from(entry.amount)),
-        None => true,
-    }
-}
-
-/// The lowest place whose entry caps nothing over the network.
-fn idle_place<N: Network>(below: &mut N, table: &CapTable) -> Option<usize>
-    ensures value { λ r. ⌜ BySome r (Busy (vec-items (now (table .entry) .places .entries)) (N·Network .meaning (now (below .entry)) .roads)) (Idles (vec-items (now (table .entry) .places .entries)) (N·Network .meaning (now (below .entry)) .roads)) ⌝ }
-    ensures same { λ _. ⌜ N·Network .meaning (now (below .exit)) ≡ N·Network .meaning (now (below .entry)) ⌝ }
-{
-    for place in 0..PLACES {
-        if caps_nothing(below, table.at(place)) {
-            return Some(place);
+    /// Lifts the cap on the arc, if there is one.
+    fn lift(&mut self, arc: usize, road: Road)
+        requires { ⌜ Some road ≡ nth (N·Network .meaning (now self .below) .roads) arc ⌝ }
+        ensures table { λ _. ⌜ Recapped (vec-items (now (self .entry) .table .places .entries)) (vec-items (now (self .exit) .table .places .entries)) (N·Network .meaning (now (self .entry) .below) .roads) arc (road .most) road ⌝ }
+        ensures same { λ _. ⌜ now (self .exit) .below ≡ now (self .entry) .below ⌝ }
+    {
+        if let Some(place) = self.table.find(arc) {
+            self.table.clear(place);
         }
     }
-    None
+
+    /// Caps the arc below its most there, in the place of its cap or in the lowest whose entry caps nothing.
+    fn lower(&mut self, arc: usize, amount: u32, road: Road) -> Result<(), Refusal>
+        requires there { ⌜ Some road ≡ nth (N·Network .meaning (now self .below) .roads) arc ⌝ }
+        requires fit { ⌜ within road amount ≡ true ⌝ }
+        requires low { ⌜ amount < road .most ⌝ }
+        ensures done { λ r. ⌜ Lowers r (now (self .exit) .table ≡ now (self .entry) .table) (vec-items (now (self .entry) .table .places .entries)) (vec-items (now (self .exit) .table .places .entries)) (N·Network .meaning (now (self .entry) .below) .roads) arc amount road ⌝ }
+        ensures same { λ _. ⌜ N·Network .meaning (now (self .exit) .below) ≡ N·Network .meaning (now (self .entry) .below) ⌝ }
+    {
+        if let Some(place) = self.table.find(arc) {
+            self.table.change(place, amount as u16);
+            return Ok(());
+        }
+        let Some(place) = idle_place(&mut self.below, &self.table) else {
+            return Err(Refusal::CapsFull);
+        };
+        self.table.put(place, CapEntry {
+            arc: arc as u16,
+            amount: amount as u16,
+        });
+        Ok(())
+    }
 }

@@ -1,4 +1,5 @@
 // The layer that lowers the mosts of some arcs.
+pub mod asks;
+pub mod layer;
 pub mod places;
 pub mod table;
-pub mod layer;

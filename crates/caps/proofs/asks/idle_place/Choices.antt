@@ -4,7 +4,7 @@ use Prim.Native.Nat.{ℕ, _<_}
 use lib.ListN.{getD}
 use Rattle.std.specs.Of.Vec.{vec-items}
 use Rattle.caps.specs.Caps.{free, idle}
-use Rattle.caps.proofs.layer.idle_place.Given as given
+use Rattle.caps.proofs.asks.idle_place.Given as given
 
 abbrev pub Inv-loop-place : given.InvT-loop-place
 Inv-loop-place g l =
