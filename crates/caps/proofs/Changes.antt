@@ -17,13 +17,14 @@ use Rattle.std.proofs.shelf.Lists.{length-set, getD-set-same, getD-set-other}
 use Rattle.std.proofs.shelf.Maps.{nth-past}
 use Rattle.std.proofs.shelf.Sums.{sumBy-cons, countBy-le-length}
 use Rattle.std.proofs.shelf.Tests.{eq-eqb, ne-eqb, leb-true, lt-ltb, le-ltb, le-leb, lt-leb, cond-true, cond-false, cases-eq, cases-lt, not-true, and-parts, and-left, and-right, not-from-true, not-from-false, both-ways}
-use Rattle.network.specs.Capped.{within, bounded, boundedFrom}
+use Rattle.network.specs.Capped.{within, bounded, boundedFrom, capped}
 use Rattle.network.specs.Limits.{max-arcs}
+use Rattle.network.specs.Net.{Net}
 use Rattle.network.specs.Roads.{withMost}
 use Rattle.network.specs.declared.refusal.Refusal.{Refusal}
 use Rattle.network.specs.declared.road.Road.{Road}
 use Rattle.network.proofs.Capped.{set-bounded}
-use Rattle.caps.specs.Caps.{place-count, free, capOf, Once, Unnamed, Names, nothingAt, idle, Idles, Busy, capsOther, faultAt, capFault, Recapped, Answers, Does, Lowers}
+use Rattle.caps.specs.Caps.{place-count, free, capOf, Once, Unnamed, Names, nothingAt, idle, Idles, Busy, capsOther, faultAt, capFault, Recapped, Answers, Does, Means, Lowers, withRoad}
 use Rattle.caps.specs.declared.places.CapEntry.{CapEntry}
 use Rattle.caps.proofs.Rows.{cap-first, cap-none, cap-other, once-apart}
 
@@ -47,8 +48,8 @@ unnamed-set : (es : List CapEntry) (p : ℕ) (e : CapEntry) (b : ℕ) → p < le
 unnamed-set es p e b hp new alone k l at =
     let hk : k < length es = omega (arith, length-set es p e) in
     elim (cases-eq k p) [
-      inl same ↦ new (ap (λ x. x .arc) (sym (getD-set-same es p e free hp)) ∙ ap (λ i. getD (set es p e) i free .arc) (sym same) ∙ at)
-    | inr apart ↦ alone k hk apart (sym (other-place es p k e apart) ∙ at)
+      | inl same ↦ new (ap (λ x. x .arc) (sym (getD-set-same es p e free hp)) ∙ ap (λ i. getD (set es p e) i free .arc) (sym same) ∙ at)
+      | inr apart ↦ alone k hk apart (sym (other-place es p k e apart) ∙ at)
     ]
 
 -- after a write, the arc that it names has this cap, where no lower place names it
@@ -56,7 +57,7 @@ named-set : (es : List CapEntry) (p : ℕ) (e : CapEntry) → p < length es → 
 named-set es p e hp before =
     let is = getD-set-same es p e free hp in
     cap-first (set es p e) (e .arc) p (omega (arith, length-set es p e)) (ap (λ x. x .arc) is)
-      (λ k l at. before k l (sym (other-place es p k e (λ z. omega arith)) ∙ at))
+    (λ k l at. before k l (sym (other-place es p k e (λ z. omega arith)) ∙ at))
     ∙ ap (λ x. Some (x .amount)) is
 
 -- an entry that does not cap another arc may be written over
@@ -75,10 +76,10 @@ idle-no-other roads a e is = and-left (not (idle roads e)) (not (eqb (e .arc) a)
 -- the amount is the most: the arc has no entry
 pub kept : (es : List CapEntry) (roads : List Road) (a : ℕ) (r : Road) (u : ℕ) → nth roads a ≡ Some r → u ≡ r .most → Unnamed es a → Recapped es es roads a u r
 kept es roads a r u at top no-one = record {
-    meant = set-bounded (capOf es) (capOf es) roads a r (withMost r u) at (ap (λ o. bounded o r) (cap-none es a no-one) ∙ ap (withMost r) (sym top)) (λ j s e apart. refl);
-    own = cap-none es a no-one ∙ sym (cond-false (ltb u (r .most)) (Some u) None (le-ltb u (r .most) (omega arith)));
-    others = λ k l e. refl
-  }
+  meant = set-bounded (capOf es) (capOf es) roads a r (withMost r u) at (ap (λ o. bounded o r) (cap-none es a no-one) ∙ ap (withMost r) (sym top)) (λ j s e apart. refl);
+  own = cap-none es a no-one ∙ sym (cond-false (ltb u (r .most)) (Some u) None (le-ltb u (r .most) (omega arith)));
+  others = λ k l e. refl;
+}
 
 -- the amount is the most: the arc's entry goes
 pub cleared : (es : List CapEntry) (roads : List Road) (a : ℕ) (r : Road) (u p : ℕ) → Once es → length es ≡ place-count → length roads ≤ max-arcs → nth roads a ≡ Some r → u ≡ r .most → Names es a p
@@ -87,13 +88,13 @@ cleared es roads a r u p once full few at top named =
     let small = arc-small roads a r few at in
     let hp : p < length es = omega (arith, named .0) in
     let gone : capOf (set es p free) a ≡ None =
-        cap-none (set es p free) a (unnamed-set es p free a hp (λ z. omega arith) (λ k l apart is. once-apart es a p k once (omega arith) hp l (named .1) is apart)) in
+    cap-none (set es p free) a (unnamed-set es p free a hp (λ z. omega arith) (λ k l apart is. once-apart es a p k once (omega arith) hp l (named .1) is apart)) in
     record {
       meant =
-        set-bounded (capOf es) (capOf (set es p free)) roads a r (withMost r u) at (ap (λ o. bounded o r) gone ∙ ap (withMost r) (sym top))
-        (λ j s e apart. ap (λ o. bounded o s) (cap-other es p free j (λ z. omega (arith, arc-small roads j s few e)) (λ z. apart (sym z ∙ named .1))));
+          set-bounded (capOf es) (capOf (set es p free)) roads a r (withMost r u) at (ap (λ o. bounded o r) gone ∙ ap (withMost r) (sym top))
+          (λ j s e apart. ap (λ o. bounded o s) (cap-other es p free j (λ z. omega (arith, arc-small roads j s few e)) (λ z. apart (sym z ∙ named .1))));
       own = gone ∙ sym (cond-false (ltb u (r .most)) (Some u) None (le-ltb u (r .most) (omega arith)));
-      others = others-set es roads a p free (own-no-other roads a (getD es p free) (named .1))
+      others = others-set es roads a p free (own-no-other roads a (getD es p free) (named .1));
     }
 
 -- a second cap on an arc
@@ -102,13 +103,13 @@ pub changed : (es : List CapEntry) (roads : List Road) (a : ℕ) (r : Road) (u p
 changed es roads a r u p e full at fit low named arc-is amount-is =
     let hp : p < length es = omega (arith, named .0) in
     let now-is : capOf (set es p e) a ≡ Some u =
-        ap (capOf (set es p e)) (sym arc-is) ∙ named-set es p e hp (λ k l is. named .2 k l (is ∙ arc-is)) ∙ ap Some amount-is in
+    ap (capOf (set es p e)) (sym arc-is) ∙ named-set es p e hp (λ k l is. named .2 k l (is ∙ arc-is)) ∙ ap Some amount-is in
     record {
       meant =
-        set-bounded (capOf es) (capOf (set es p e)) roads a r (withMost r u) at (ap (λ o. bounded o r) now-is ∙ cond-true (within r u) (withMost r u) r fit)
-        (λ j s is apart. ap (λ o. bounded o s) (cap-other es p e j (λ z. apart (sym z ∙ arc-is)) (λ z. apart (sym z ∙ named .1))));
+          set-bounded (capOf es) (capOf (set es p e)) roads a r (withMost r u) at (ap (λ o. bounded o r) now-is ∙ cond-true (within r u) (withMost r u) r fit)
+          (λ j s is apart. ap (λ o. bounded o s) (cap-other es p e j (λ z. apart (sym z ∙ arc-is)) (λ z. apart (sym z ∙ named .1))));
       own = now-is ∙ sym (cond-true (ltb u (r .most)) (Some u) None (lt-ltb u (r .most) low));
-      others = others-set es roads a p e (own-no-other roads a (getD es p free) (named .1))
+      others = others-set es roads a p e (own-no-other roads a (getD es p free) (named .1));
     }
 
 -- an idle entry caps nothing, and neither does what is left without it
@@ -123,24 +124,24 @@ pub added : (es : List CapEntry) (roads : List Road) (a : ℕ) (r : Road) (u p :
 added es roads a r u p e once full few at fit low no-one idles arc-is amount-is =
     let hp : p < length es = omega (arith, idles .0) in
     let now-is : capOf (set es p e) a ≡ Some u =
-        ap (capOf (set es p e)) (sym arc-is) ∙ named-set es p e hp (λ k l is. no-one k (omega arith) (is ∙ arc-is)) ∙ ap Some amount-is in
+    ap (capOf (set es p e)) (sym arc-is) ∙ named-set es p e hp (λ k l is. no-one k (omega arith) (is ∙ arc-is)) ∙ ap Some amount-is in
     let over : (j : ℕ) (s : Road) → nth roads j ≡ Some s → (j ≡ a → ⊥) → getD es p free .arc ≡ j → bounded (capOf (set es p e) j) s ≡ bounded (capOf es j) s =
-        (λ j s is apart old.
-          let small = arc-small roads j s few is in
-          let alone : (k : ℕ) → k < length es → (k ≡ p → ⊥) → getD es k free .arc ≡ j → ⊥ = (λ k l other this. once-apart es j p k once (omega arith) hp l old this other) in
-          ap (λ o. bounded o s) (cap-none (set es p e) j (unnamed-set es p e j hp (λ z. apart (sym z ∙ arc-is)) alone))
-          ∙ sym (idle-gone roads (getD es p free) s (ap (nth roads) old ∙ is) (idles .1))
-          ∙ sym (ap (λ o. bounded o s) (cap-first es j p hp old (λ k l this. alone k (omega arith) (λ z. omega arith) this)))) in
+    (λ j s is apart old.
+    let small = arc-small roads j s few is in
+    let alone : (k : ℕ) → k < length es → (k ≡ p → ⊥) → getD es k free .arc ≡ j → ⊥ = (λ k l other this. once-apart es j p k once (omega arith) hp l old this other) in
+    ap (λ o. bounded o s) (cap-none (set es p e) j (unnamed-set es p e j hp (λ z. apart (sym z ∙ arc-is)) alone))
+    ∙ sym (idle-gone roads (getD es p free) s (ap (nth roads) old ∙ is) (idles .1))
+    ∙ sym (ap (λ o. bounded o s) (cap-first es j p hp old (λ k l this. alone k (omega arith) (λ z. omega arith) this)))) in
     record {
       meant =
-        set-bounded (capOf es) (capOf (set es p e)) roads a r (withMost r u) at (ap (λ o. bounded o r) now-is ∙ cond-true (within r u) (withMost r u) r fit)
-        (λ j s is apart.
+          set-bounded (capOf es) (capOf (set es p e)) roads a r (withMost r u) at (ap (λ o. bounded o r) now-is ∙ cond-true (within r u) (withMost r u) r fit)
+          (λ j s is apart.
           elim (cases-eq (getD es p free .arc) j) [
-            inl old ↦ over j s is apart old
-          | inr new ↦ ap (λ o. bounded o s) (cap-other es p e j (λ z. apart (sym z ∙ arc-is)) new)
+            | inl old ↦ over j s is apart old
+            | inr new ↦ ap (λ o. bounded o s) (cap-other es p e j (λ z. apart (sym z ∙ arc-is)) new)
           ]);
       own = now-is ∙ sym (cond-true (ltb u (r .most)) (Some u) None (lt-ltb u (r .most) low));
-      others = others-set es roads a p e (idle-no-other roads a (getD es p free) (idles .1))
+      others = others-set es roads a p e (idle-no-other roads a (getD es p free) (idles .1));
     }
 
 count-all : (test : CapEntry → Bool) (es : List CapEntry) → ((k : ℕ) → k < length es → test (getD es k free) ≡ true) → countBy test es ≡ length es
@@ -177,9 +178,9 @@ room-idle es roads a p full idles =
 pub room-none : (es : List CapEntry) (roads : List Road) (a : ℕ) → length es ≡ place-count → Unnamed es a → Busy es roads → place-count ≤ countBy (capsOther roads a) es
 room-none es roads a full no-one busy =
     let all : (k : ℕ) → k < length es → capsOther roads a (getD es k free) ≡ true =
-        (λ k l.
-          ap (λ b. not b && not (eqb (getD es k free .arc) a)) (busy k (omega arith))
-          ∙ not-from-false (eqb (getD es k free .arc) a) (ne-eqb (getD es k free .arc) a (no-one k l))) in
+    (λ k l.
+    ap (λ b. not b && not (eqb (getD es k free .arc) a)) (busy k (omega arith))
+    ∙ not-from-false (eqb (getD es k free .arc) a) (ne-eqb (getD es k free .arc) a (no-one k l))) in
     omega (arith, count-all (capsOther roads a) es all)
 
 -- the faults
@@ -193,16 +194,16 @@ pub no-fault : (others a u : ℕ) (roads : List Road) (r : Road) → Some r ≡ 
 no-fault others a u roads r at fit why =
     ap (λ o. faultAt others o u) (sym at) ∙ cond-true (within r u) _ (Some 2) fit
     ∙ cond-false (ltb u (r .most) && leb place-count others) (Some 3) None
-      (elim why [
-        inl top ↦ and-left (ltb u (r .most)) (leb place-count others) (le-ltb u (r .most) (omega arith))
+    (elim why [
+      | inl top ↦ and-left (ltb u (r .most)) (leb place-count others) (le-ltb u (r .most) (omega arith))
       | inr few ↦ and-right (ltb u (r .most)) (leb place-count others) (lt-leb place-count others few)
-      ])
+    ])
 
 pub no-place : (others a u : ℕ) (roads : List Road) (r : Road) → Some r ≡ nth roads a → within r u ≡ true → u < r .most → place-count ≤ others → faultAt others (nth roads a) u ≡ Some 3
 no-place others a u roads r at fit low full =
     ap (λ o. faultAt others o u) (sym at) ∙ cond-true (within r u) _ (Some 2) fit
     ∙ cond-true (ltb u (r .most) && leb place-count others) (Some 3) None
-      (ap (λ b. b && leb place-count others) (lt-ltb u (r .most) low) ∙ le-leb place-count others full)
+    (ap (λ b. b && leb place-count others) (lt-ltb u (r .most) low) ∙ le-leb place-count others full)
 
 -- a cap below the most, as any cap
 pub lowers-does : (res : Result (Unit {0}) Refusal) (Same : Type 0) (es es′ : List CapEntry) (roads : List Road) (a u : ℕ) (r : Road) → Some r ≡ nth roads a → Lowers res Same es es′ roads a u r → Does res Same es es′ roads a u
@@ -216,3 +217,21 @@ lowers-answers (Err e) Same es es′ roads a u r at fit low h = (3, no-place (co
 
 pub within-below : (r : Road) (u : ℕ) → within r u ≡ true → (u ≡ r .most → ⊥) → u < r .most
 within-below r u fit apart = let h = leb-true u (r .most) (and-parts (leb (r .least) u) (leb u (r .most)) fit .1) in omega arith
+
+-- what a cap that is lifted does, where the network below means the same after it is asked
+pub lifts-does : (es es′ : List CapEntry) (n m : Net) (a u : ℕ) (r : Road) → m ≡ n → u ≡ r .most → Some r ≡ nth (n .roads) a → Recapped es es′ (m .roads) a (r .most) r
+    → (s : Road) → nth (n .roads) a ≡ Some s → Recapped es es′ (n .roads) a u s
+lifts-does es es′ n m a u r same top at h s is =
+    let q : r ≡ s = cc in
+    let there = subst (λ k. Recapped es es′ (k .roads) a (r .most) r) same h in
+    subst (Recapped es es′ (n .roads) a u) q (subst (λ v. Recapped es es′ (n .roads) a v r) (sym top) there)
+
+-- what a cap does to the table, said of the network
+pub kept-means : (es es′ : List CapEntry) (n n′ : Net) (a u : ℕ) → n′ ≡ n → ((r : Road) → nth (n .roads) a ≡ Some r → Recapped es es′ (n .roads) a u r)
+    → (r : Road) → nth (n .roads) a ≡ Some r → capped (capOf es′) n′ ≡ withRoad (capped (capOf es) n) a (withMost r u)
+kept-means es es′ n n′ a u same h r at = ap (capped (capOf es′)) same ∙ ap {B = Net} (λ roads. record { stocks = n .stocks; roads = roads; fixed = n .fixed }) (h r at .meant)
+
+pub does-means : (res : Result (Unit {0}) Refusal) (Same : Type 0) (es es′ : List CapEntry) (n n′ : Net) (a u : ℕ) → n′ ≡ n → (Same → es′ ≡ es) → Does res Same es es′ (n .roads) a u
+    → Means res (capped (capOf es) n) (capped (capOf es′) n′) (n .roads) a u
+does-means (Ok x) Same es es′ n n′ a u same keeps h = kept-means es es′ n n′ a u same h
+does-means (Err e) Same es es′ n n′ a u same keeps h = ap (capped (capOf es′)) same ∙ ap (λ xs. capped (capOf xs) n) (keeps h)

@@ -12,6 +12,7 @@ use Rattle.std.specs.declared.option.Option.the-variants.{Some, None}
 use Rattle.std.specs.declared.result.Result.{Result}
 use Rattle.std.specs.shelf.Lists.{countBy}
 use Rattle.network.specs.Capped.{within, boundedFrom}
+use Rattle.network.specs.Net.{Net}
 use Rattle.network.specs.Refusals.{Says}
 use Rattle.network.specs.Roads.{withMost}
 use Rattle.network.specs.declared.refusal.Refusal.{Refusal}
@@ -86,6 +87,14 @@ Answers res fault = Cases res (λ _. fault ≡ None) (λ e. (k : ℕ) × (fault 
 -- what a cap does: a refusal leaves the same
 abbrev pub Does : Result (Unit {0}) Refusal → Type 0 → List CapEntry → List CapEntry → List Road → ℕ → ℕ → Type 0
 Does res Same es es′ roads a u = Cases res (λ _. (r : Road) → nth roads a ≡ Some r → Recapped es es′ roads a u r) (λ _. Same)
+
+-- the network with another road for an arc
+abbrev pub withRoad : Net → ℕ → Road → Net
+withRoad n a r = record { stocks = n .stocks; roads = set (n .roads) a r; fixed = n .fixed }
+
+-- what a cap on an arc of the roads below does to the network under the caps
+abbrev pub Means : Result (Unit {0}) Refusal → Net → Net → List Road → ℕ → ℕ → Type 0
+Means res before after roads a u = Cases res (λ _. (r : Road) → nth roads a ≡ Some r → after ≡ withRoad before a (withMost r u)) (λ _. after ≡ before)
 
 -- what a cap below the most does: it is refused only where every place caps another arc
 abbrev pub Lowers : Result (Unit {0}) Refusal → Type 0 → List CapEntry → List CapEntry → List Road → ℕ → ℕ → Road → Type 0

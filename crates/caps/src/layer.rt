@@ -7,7 +7,7 @@ ghost use Rattle.std.specs.Of.Vec.{vec-items};
 ghost use Rattle.std.specs.declared.option.Option.the-variants.{Some};
 ghost use Rattle.network.specs.Capped.{within, capped};
 ghost use Rattle.network.proofs.Capped.{capped-lawful};
-ghost use Rattle.caps.specs.Caps.{capOf, capFault, Recapped, Answers, Does, Lowers};
+ghost use Rattle.caps.specs.Caps.{capOf, capFault, Recapped, Answers, Does, Means, Lowers};
 use crate::asks::bounded_by;
 use crate::asks::idle_place;
 use crate::asks::may_carry;
@@ -63,6 +63,7 @@ impl<N: Network> Cap<N> {
     /// Refused where there is no such arc below, where that arc may not carry the amount, or where every place caps another arc; then nothing changes.
     pub fn cap(&mut self, arc: usize, amount: u32) -> Result<(), Refusal>
         ensures done { λ r. ⌜ Does r (now (self .exit) .table ≡ now (self .entry) .table) (vec-items (now (self .entry) .table .places .entries)) (vec-items (now (self .exit) .table .places .entries)) (N·Network .meaning (now (self .entry) .below) .roads) arc amount ⌝ }
+        ensures meant { λ r. ⌜ Means r (capped (capOf (vec-items (now (self .entry) .table .places .entries))) (N·Network .meaning (now (self .entry) .below))) (capped (capOf (vec-items (now (self .exit) .table .places .entries))) (N·Network .meaning (now (self .exit) .below))) (N·Network .meaning (now (self .entry) .below) .roads) arc amount ⌝ }
         ensures answer { λ r. ⌜ Answers r (capFault (vec-items (now (self .entry) .table .places .entries)) (N·Network .meaning (now (self .entry) .below) .roads) arc amount) ⌝ }
         ensures same { λ _. ⌜ N·Network .meaning (now (self .exit) .below) ≡ N·Network .meaning (now (self .entry) .below) ⌝ }
     {
@@ -105,10 +106,13 @@ impl<N: Network> Cap<N> {
         let Some(place) = idle_place(&mut self.below, &self.table) else {
             return Err(Refusal::CapsFull);
         };
-        self.table.put(place, CapEntry {
-            arc: arc as u16,
-            amount: amount as u16,
-        });
+        self.table.put(
+            place,
+            CapEntry {
+                arc: arc as u16,
+                amount: amount as u16,
+            },
+        );
         Ok(())
     }
 }

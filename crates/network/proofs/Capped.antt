@@ -64,15 +64,15 @@ length-bounded f i (r ∷ rs) = ap suc (length-bounded f (suc i) rs)
 
 pub capped-lawful : (f : ℕ → Option ℕ) (n : Net) → Lawful n → Lawful (capped f n)
 capped-lawful f n h = record {
-    some = h .some;
-    nodes = h .nodes;
-    arcs = subst (λ k. k ≤ max-arcs) (sym (length-bounded f 0 (n .roads))) (h .arcs);
-    ranged = each-bounded (Ranged (nodeCount n)) (bounded-ranged (nodeCount n)) f 0 (n .roads) (h .ranged);
-    passable = each-bounded Passable bounded-passable f 0 (n .roads) (h .passable);
-    node = λ v l. omega (arith, h .node v l, sum-bounded (touch v) (bounded-touch v) f 0 (n .roads));
-    first = omega (arith, h .first, sum-bounded (span (λ r. r .first)) (bounded-span (λ r. r .first) (λ r u. refl)) f 0 (n .roads));
-    second = omega (arith, h .second, sum-bounded (span (λ r. r .second)) (bounded-span (λ r. r .second) (λ r u. refl)) f 0 (n .roads))
-  }
+  some = h .some;
+  nodes = h .nodes;
+  arcs = subst (λ k. k ≤ max-arcs) (sym (length-bounded f 0 (n .roads))) (h .arcs);
+  ranged = each-bounded (Ranged (nodeCount n)) (bounded-ranged (nodeCount n)) f 0 (n .roads) (h .ranged);
+  passable = each-bounded Passable bounded-passable f 0 (n .roads) (h .passable);
+  node = λ v l. omega (arith, h .node v l, sum-bounded (touch v) (bounded-touch v) f 0 (n .roads));
+  first = omega (arith, h .first, sum-bounded (span (λ r. r .first)) (bounded-span (λ r. r .first) (λ r u. refl)) f 0 (n .roads));
+  second = omega (arith, h .second, sum-bounded (span (λ r. r .second)) (bounded-span (λ r. r .second) (λ r u. refl)) f 0 (n .roads));
+}
 
 nth-from : (f : ℕ → Option ℕ) (i : ℕ) (rs : List Road) (k : ℕ) → nth (boundedFrom f i rs) k ≡ mapped (bounded (f (i + k))) (nth rs k)
 nth-from f i [] k = refl
@@ -101,8 +101,8 @@ set-from f g i (a ∷ rs) zero r x at is same =
 set-from f g i (a ∷ rs) (suc k) r x at is same =
     let here : bounded (g i) a ≡ bounded (f i) a = subst (λ j. bounded (g j) a ≡ bounded (f j) a) (add-zero i) (same 0 a refl (λ z. omega arith)) in
     let rest =
-        set-from f g (suc i) rs k r x at (subst (λ j. bounded (g j) r ≡ x) (omega arith) is)
-        (λ j s e apart. subst (λ m. bounded (g m) s ≡ bounded (f m) s) (omega arith) (same (suc j) s e (λ z. apart (omega arith)))) in
+    set-from f g (suc i) rs k r x at (subst (λ j. bounded (g j) r ≡ x) (omega arith) is)
+    (λ j s e apart. subst (λ m. bounded (g m) s ≡ bounded (f m) s) (omega arith) (same (suc j) s e (λ z. apart (omega arith)))) in
     ap (λ y. y ∷ boundedFrom g (suc i) rs) here ∙ ap (λ xs. bounded (f i) a ∷ xs) rest
 
 -- caps that differ at one arc alone change the road of this arc alone

@@ -14,8 +14,8 @@ returns-in-Some g c =
     let few = g .N·Network .laws (c .args .self .now .below) .arcs in
     record {
       table =
-        subst (λ left. Recapped es left (net .roads) (c .args .arc) (c .args .road .most) (c .args .road)) (sym (c .clear .ensures))
-        (cleared es (net .roads) (c .args .arc) (c .args .road) (c .args .road .most) (c .in-Some .place) (c .args .self .now .table .once) full few (sym (c .pre)) refl (c .in-Some .ensures tt));
+          subst (λ left. Recapped es left (net .roads) (c .args .arc) (c .args .road .most) (c .args .road)) (sym (c .clear .ensures))
+          (cleared es (net .roads) (c .args .arc) (c .args .road) (c .args .road .most) (c .in-Some .place) (c .args .self .now .table .once) full few (sym (c .pre)) refl (c .in-Some .ensures tt));
       same = refl;
     }
 

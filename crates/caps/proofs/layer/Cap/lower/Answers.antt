@@ -40,10 +40,11 @@ returns-in-Some g c =
     let place = c .in-Some .place in
     let named = c .in-Some .ensures tt in
     record {
-      done =
-        ( room-named es (net .roads) (c .args .arc) place full named
-        , subst (λ left. Recapped es left (net .roads) (c .args .arc) (c .args .amount) (c .args .road)) (sym (c .change .ensures))
-          (changed es (net .roads) (c .args .arc) (c .args .road) (c .args .amount) place (record { arc = getD es place free .arc; amount = c .args .amount }) full (sym (c .pre .there)) (c .pre .fit) (c .pre .low) named (named .1) refl) );
+      done = (
+        room-named es (net .roads) (c .args .arc) place full named,
+        subst (λ left. Recapped es left (net .roads) (c .args .arc) (c .args .amount) (c .args .road)) (sym (c .change .ensures))
+            (changed es (net .roads) (c .args .arc) (c .args .road) (c .args .amount) place (record { arc = getD es place free .arc; amount = c .args .amount }) full (sym (c .pre .there)) (c .pre .fit) (c .pre .low) named (named .1) refl),
+      );
       same = refl;
     }
 
@@ -66,9 +67,10 @@ returns g c =
     let place = c .in-Some-idle-place .place in
     let idles = c .in-Some-idle-place .ensures tt .value in
     record {
-      done =
-        ( room-idle es (net .roads) (c .args .arc) place full idles
-        , subst (λ left. Recapped es left (net .roads) (c .args .arc) (c .args .amount) (c .args .road)) (sym (c .put .ensures))
-          (added es (net .roads) (c .args .arc) (c .args .road) (c .args .amount) place (record { arc = c .args .arc; amount = c .args .amount }) (c .args .self .now .table .once) full few (sym (c .pre .there)) (c .pre .fit) (c .pre .low) (c .in-rest .ensures tt) idles refl refl) );
+      done = (
+        room-idle es (net .roads) (c .args .arc) place full idles,
+        subst (λ left. Recapped es left (net .roads) (c .args .arc) (c .args .amount) (c .args .road)) (sym (c .put .ensures))
+            (added es (net .roads) (c .args .arc) (c .args .road) (c .args .amount) place (record { arc = c .args .arc; amount = c .args .amount }) (c .args .self .now .table .once) full few (sym (c .pre .there)) (c .pre .fit) (c .pre .low) (c .in-rest .ensures tt) idles refl refl),
+      );
       same = c .idle-place .ensures .same;
     }
