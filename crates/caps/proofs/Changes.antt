@@ -2,13 +2,12 @@
 use mathlib.Core.Path.{_≡_, refl, sym, ap, subst, _∙_}
 use mathlib.Core.Bool.{Bool, true, false, not, cond, _&&_}
 use mathlib.Core.List.{List, [], _∷_}
-use mathlib.Core.Logic.{_⊎_, inl, inr, _≢_}
-use Prim.Native.Nat.{ℕ, zero, suc, _+_, _<_, _≤_}
+use mathlib.Core.Logic.{_⊎_, inl, inr}
+use Prim.Native.Nat.{ℕ, zero, suc, _<_, _≤_}
 use native.Mathlib.Omega.{arith}
 use lib.Dec.{eqb, leb, ltb}
 use lib.ListN.{length, getD, set}
 use Rattle.std.specs.Finite.{nth}
-use Rattle.std.specs.declared.option.Option.{Option}
 use Rattle.std.specs.declared.option.Option.the-variants.{Some, None}
 use Rattle.std.specs.declared.result.Result.{Result}
 use Rattle.std.specs.declared.result.Result.the-variants.{Ok, Err}
@@ -16,8 +15,8 @@ use Rattle.std.specs.shelf.Lists.{All, countBy}
 use Rattle.std.proofs.shelf.Lists.{length-set, getD-set-same, getD-set-other}
 use Rattle.std.proofs.shelf.Maps.{nth-past}
 use Rattle.std.proofs.shelf.Sums.{sumBy-cons, countBy-le-length}
-use Rattle.std.proofs.shelf.Tests.{eq-eqb, ne-eqb, leb-true, lt-ltb, le-ltb, le-leb, lt-leb, cond-true, cond-false, cases-eq, cases-lt, not-true, and-parts, and-left, and-right, not-from-true, not-from-false, both-ways}
-use Rattle.network.specs.Capped.{within, bounded, boundedFrom, capped}
+use Rattle.std.proofs.shelf.Tests.{eq-eqb, ne-eqb, leb-true, lt-ltb, le-ltb, le-leb, lt-leb, cond-true, cond-false, cases-eq, cases-lt, cases-order, not-true, and-parts, and-left, and-right, not-from-true, not-from-false, both-ways}
+use Rattle.network.specs.Capped.{within, bounded, capped}
 use Rattle.network.specs.Limits.{max-arcs}
 use Rattle.network.specs.Net.{Net}
 use Rattle.network.specs.Roads.{withMost}
@@ -73,12 +72,38 @@ own-no-other roads a e is = and-right (not (idle roads e)) (not (eqb (e .arc) a)
 idle-no-other : (roads : List Road) (a : ℕ) (e : CapEntry) → idle roads e ≡ true → capsOther roads a e ≡ false
 idle-no-other roads a e is = and-left (not (idle roads e)) (not (eqb (e .arc) a)) (not-from-true (idle roads e) is)
 
+-- a lowest place is the only one
+named-one : (es : List CapEntry) (a p q : ℕ) → Names es a p → Names es a q → p ≡ q
+named-one es a p q hp hq = elim (cases-order p q) [ inl e ↦ e | inr w ↦ elim w [ inl l ↦ absurd (hq .2 p l (hp .1)) | inr l ↦ absurd (hp .2 q l (hq .1)) ] ]
+
+idle-one : (es : List CapEntry) (roads : List Road) (p q : ℕ) → Idles es roads p → Idles es roads q → p ≡ q
+idle-one es roads p q hp hq =
+    elim (cases-order p q) [
+      | inl e ↦ e
+      | inr w ↦ elim w [
+        | inl l ↦ absurd (both-ways (idle roads (getD es p free)) (hq .2 p l) (hp .1))
+        | inr l ↦ absurd (both-ways (idle roads (getD es q free)) (hp .2 q l) (hq .1))
+      ]
+    ]
+
+named-not : (es : List CapEntry) (a p : ℕ) → length es ≡ place-count → Names es a p → Unnamed es a → ⊥
+named-not es a p full named no-one = no-one p (omega (arith, named .0)) (named .1)
+
+-- an entry of this arc and this amount, at this place
+written : (es : List CapEntry) (a u p q : ℕ) (e : CapEntry) → p ≡ q → e .arc ≡ a → e .amount ≡ u → set es p e ≡ set es q (record { arc = a; amount = u })
+written es a u p q e same arc-is amount-is =
+    let put : ℕ → ℕ → ℕ → List CapEntry = λ i b v. set es i (record { arc = b; amount = v }) in
+    ap (λ i. put i (e .arc) (e .amount)) same ∙ ap (λ b. put q b (e .amount)) arc-is ∙ ap (put q a) amount-is
+
 -- the amount is the most: the arc has no entry
-pub kept : (es : List CapEntry) (roads : List Road) (a : ℕ) (r : Road) (u : ℕ) → nth roads a ≡ Some r → u ≡ r .most → Unnamed es a → Recapped es es roads a u r
-kept es roads a r u at top no-one = record {
+pub kept : (es : List CapEntry) (roads : List Road) (a : ℕ) (r : Road) (u : ℕ) → length es ≡ place-count → nth roads a ≡ Some r → u ≡ r .most → Unnamed es a → Recapped es es roads a u r
+kept es roads a r u full at top no-one = record {
   meant = set-bounded (capOf es) (capOf es) roads a r (withMost r u) at (ap (λ o. bounded o r) (cap-none es a no-one) ∙ ap (withMost r) (sym top)) (λ j s e apart. refl);
   own = cap-none es a no-one ∙ sym (cond-false (ltb u (r .most)) (Some u) None (le-ltb u (r .most) (omega arith)));
   others = λ k l e. refl;
+  placed = λ low p takes. absurd (omega arith);
+  freed = λ _ p named. absurd (named-not es a p full named no-one);
+  left = λ _ _. refl;
 }
 
 -- the amount is the most: the arc's entry goes
@@ -95,6 +120,9 @@ cleared es roads a r u p once full few at top named =
           (λ j s e apart. ap (λ o. bounded o s) (cap-other es p free j (λ z. omega (arith, arc-small roads j s few e)) (λ z. apart (sym z ∙ named .1))));
       own = gone ∙ sym (cond-false (ltb u (r .most)) (Some u) None (le-ltb u (r .most) (omega arith)));
       others = others-set es roads a p free (own-no-other roads a (getD es p free) (named .1));
+      placed = λ low q takes. absurd (omega arith);
+      freed = λ _ q there. ap (λ i. set es i free) (named-one es a p q named there);
+      left = λ _ no-one. absurd (named-not es a p full named no-one);
     }
 
 -- a second cap on an arc
@@ -110,6 +138,13 @@ changed es roads a r u p e full at fit low named arc-is amount-is =
           (λ j s is apart. ap (λ o. bounded o s) (cap-other es p e j (λ z. apart (sym z ∙ arc-is)) (λ z. apart (sym z ∙ named .1))));
       own = now-is ∙ sym (cond-true (ltb u (r .most)) (Some u) None (lt-ltb u (r .most) low));
       others = others-set es roads a p e (own-no-other roads a (getD es p free) (named .1));
+      placed = λ _ q takes.
+          elim takes [
+            | inl there ↦ written es a u p q e (named-one es a p q named there) arc-is amount-is
+            | inr new ↦ absurd (named-not es a p full named (new .0))
+          ];
+      freed = λ top q there. absurd (omega arith);
+      left = λ top no-one. absurd (omega arith);
     }
 
 -- an idle entry caps nothing, and neither does what is left without it
@@ -142,6 +177,13 @@ added es roads a r u p e once full few at fit low no-one idles arc-is amount-is 
           ]);
       own = now-is ∙ sym (cond-true (ltb u (r .most)) (Some u) None (lt-ltb u (r .most) low));
       others = others-set es roads a p e (idle-no-other roads a (getD es p free) (idles .1));
+      placed = λ _ q takes.
+          elim takes [
+            | inl there ↦ absurd (named-not es a q full there no-one)
+            | inr new ↦ written es a u p q e (idle-one es roads p q idles (new .1)) arc-is amount-is
+          ];
+      freed = λ top q there. absurd (omega arith);
+      left = λ top _. absurd (omega arith);
     }
 
 count-all : (test : CapEntry → Bool) (es : List CapEntry) → ((k : ℕ) → k < length es → test (getD es k free) ≡ true) → countBy test es ≡ length es

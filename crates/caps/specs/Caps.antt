@@ -1,6 +1,7 @@
 -- What a row of caps says of each arc, and what a new cap asks of it.
 use mathlib.Core.Bool.{Bool, true, false, not, cond, _&&_}
 use mathlib.Core.List.{List, [], _∷_}
+use mathlib.Core.Logic.{_⊎_}
 use mathlib.Core.Path.{_≡_}
 use Prim.Native.Nat.{ℕ, _<_, _≤_}
 use lib.Dec.{eqb, leb, ltb}
@@ -74,11 +75,18 @@ faultAt others (Some r) u = cond (within r u) (cond (ltb u (r .most) && leb plac
 abbrev pub capFault : List CapEntry → List Road → ℕ → ℕ → Option ℕ
 capFault es roads a u = faultAt (countBy (capsOther roads a) es) (nth roads a) u
 
--- what a cap on the road of an arc leaves: the arc's most is the amount, an entry stands only for an amount below the most, and every entry that caps another arc stays
+-- the place that a cap below the most takes: the arc's own, else the lowest whose entry caps nothing
+abbrev pub Takes : List CapEntry → List Road → ℕ → ℕ → Type 0
+Takes es roads a p = Names es a p ⊎ (Unnamed es a × Idles es roads p)
+
+-- what a cap on the road of an arc leaves: the arc's most is the amount, an entry stands only for an amount below the most, every entry that caps another arc stays, and one place at most is written
 pub record Recapped (es es′ : List CapEntry) (roads : List Road) (a u : ℕ) (r : Road) : Type 0 where
   pub meant : boundedFrom (capOf es′) 0 roads ≡ set (boundedFrom (capOf es) 0 roads) a (withMost r u)
   pub own : capOf es′ a ≡ cond (ltb u (r .most)) (Some u) None
   pub others : (k : ℕ) → k < place-count → capsOther roads a (getD es k free) ≡ true → getD es′ k free ≡ getD es k free
+  pub placed : u < r .most → (p : ℕ) → Takes es roads a p → es′ ≡ set es p (record { arc = a; amount = u })
+  pub freed : u ≡ r .most → (p : ℕ) → Names es a p → es′ ≡ set es p free
+  pub left : u ≡ r .most → Unnamed es a → es′ ≡ es
 
 -- the answer of a cap: none where there is no fault, else the refusal of its number
 abbrev pub Answers : Result (Unit {0}) Refusal → Option ℕ → Type 0

@@ -1,7 +1,7 @@
 // A plain row of places for caps, which lends one place at a time.
 ghost use mathlib.Core.Path.{_≡_};
-ghost use Prim.Native.Nat.{ℕ, _<_};
-ghost use lib.ListN.{getD, set, replicate};
+ghost use Prim.Native.Nat.{_<_};
+ghost use lib.ListN.{getD, replicate};
 ghost use ghost.Atoms.{sem};
 ghost use denote.Follow.{follows};
 ghost use denote.Ref.{name};

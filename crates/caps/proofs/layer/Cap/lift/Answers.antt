@@ -23,4 +23,5 @@ pub returns-in-rest : need.returns-in-rest
 returns-in-rest g c =
     let es = vec-items (c .args .self .now .table .places .entries) in
     let net = g .N·Network .meaning (c .args .self .now .below) in
-    record { table = kept es (net .roads) (c .args .arc) (c .args .road) (c .args .road .most) (sym (c .pre)) refl (c .in-rest .ensures tt); same = refl }
+    let full : length es ≡ place-count = omega arith in
+    record { table = kept es (net .roads) (c .args .arc) (c .args .road) (c .args .road .most) full (sym (c .pre)) refl (c .in-rest .ensures tt); same = refl }

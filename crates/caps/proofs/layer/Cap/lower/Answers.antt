@@ -1,10 +1,7 @@
-use mathlib.Core.Path.{_≡_, refl, sym, ap, subst, _∙_}
-use mathlib.Core.Bool.{true}
-use Prim.Native.Nat.{_<_, _≤_}
+use mathlib.Core.Path.{_≡_, refl, sym, subst}
 use native.Mathlib.Omega.{arith}
 use lib.ListN.{length, getD}
 use Rattle.std.specs.Of.Vec.{vec-items}
-use Rattle.network.specs.Limits.{max-arcs, max-most}
 use Rattle.network.specs.Net.{nodeCount}
 use Rattle.network.specs.Roads.{Ranged}
 use Rattle.caps.specs.Caps.{place-count, free, Recapped}

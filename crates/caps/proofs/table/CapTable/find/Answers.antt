@@ -1,9 +1,7 @@
 use borrow.Author.Count.{below-more}
-use mathlib.Core.Path.{_≡_, sym, ap, _∙_}
+use mathlib.Core.Path.{sym, ap, _∙_}
 use native.Mathlib.Omega.{arith}
-use lib.ListN.{length, getD}
-use Rattle.std.specs.Of.Vec.{vec-items}
-use Rattle.caps.specs.Caps.{free}
+use lib.ListN.{length}
 use Rattle.caps.proofs.Rows.{read-place}
 use Rattle.caps.proofs.table.CapTable.find.Needs as need
 
