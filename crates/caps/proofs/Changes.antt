@@ -13,9 +13,8 @@ use Rattle.std.specs.declared.result.Result.{Result}
 use Rattle.std.specs.declared.result.Result.the-variants.{Ok, Err}
 use Rattle.std.specs.shelf.Lists.{All, countBy}
 use Rattle.std.proofs.shelf.Lists.{length-set, getD-set-same, getD-set-other}
-use Rattle.std.proofs.shelf.Maps.{nth-past}
 use Rattle.std.proofs.shelf.Sums.{sumBy-cons, countBy-le-length}
-use Rattle.std.proofs.shelf.Tests.{eq-eqb, ne-eqb, leb-true, lt-ltb, le-ltb, le-leb, lt-leb, cond-true, cond-false, cases-eq, cases-lt, cases-order, not-true, and-parts, and-left, and-right, not-from-true, not-from-false, both-ways}
+use Rattle.std.proofs.shelf.Tests.{eq-eqb, ne-eqb, leb-true, lt-ltb, le-ltb, le-leb, lt-leb, cond-true, cond-false, cases-eq, cases-order, not-true, and-parts, and-left, and-right, not-from-true, not-from-false, both-ways}
 use Rattle.network.specs.Capped.{within, bounded, capped}
 use Rattle.network.specs.Limits.{max-arcs}
 use Rattle.network.specs.Net.{Net}
@@ -23,14 +22,14 @@ use Rattle.network.specs.Roads.{withMost}
 use Rattle.network.specs.declared.refusal.Refusal.{Refusal}
 use Rattle.network.specs.declared.road.Road.{Road}
 use Rattle.network.proofs.Capped.{set-bounded}
+use Rattle.network.proofs.Places.{nth-some}
 use Rattle.caps.specs.Caps.{place-count, free, capOf, Once, Unnamed, Names, nothingAt, idle, Idles, Busy, capsOther, faultAt, capFault, Recapped, Answers, Does, Means, Lowers, withRoad}
 use Rattle.caps.specs.declared.places.CapEntry.{CapEntry}
 use Rattle.caps.proofs.Rows.{cap-first, cap-none, cap-other, once-apart}
 
 -- an arc that is there has a smaller number than a free place
 pub arc-small : (roads : List Road) (a : ℕ) (r : Road) → length roads ≤ max-arcs → nth roads a ≡ Some r → a < max-arcs
-arc-small roads a r few at =
-    elim (cases-lt a (length roads)) [ inl l ↦ omega arith | inr past ↦ let gone = nth-past roads a past in let z : _≡_ {A = ℕ} 0 1 = cc in absurd (omega arith) ]
+arc-small roads a r few at = let l = nth-some roads a r (sym at) in omega arith
 
 -- what holds of every road holds of an arc's
 pub road-of : (P : Road → Type 0) (roads : List Road) (a : ℕ) (r : Road) → All P roads → nth roads a ≡ Some r → P r
