@@ -5,3 +5,4 @@ pub mod Tested
 pub mod Exchanged
 pub mod Floored
 pub mod Gridded
+pub mod Capped
