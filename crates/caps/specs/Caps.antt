@@ -45,6 +45,14 @@ Unnamed es a = (k : ℕ) → k < length es → getD es k free .arc ≡ a → ⊥
 abbrev pub Names : List CapEntry → ℕ → ℕ → Type 0
 Names es a p = (p < place-count) × (getD es p free .arc ≡ a) × ((k : ℕ) → k < p → getD es k free .arc ≡ a → ⊥)
 
+-- an entry for an arc that had none stands in the lowest free place
+abbrev pub Added : List CapEntry → List CapEntry → ℕ → ℕ → Type 0
+Added es es′ a u = Unnamed es a × ((p : ℕ) × Names es (free .arc) p × (es′ ≡ set es p (record { arc = a; amount = u })))
+
+-- the arc has an entry already, or no place is free
+abbrev pub No-room : List CapEntry → ℕ → Type 0
+No-room es a = (Unnamed es a → ⊥) ⊎ Unnamed es (free .arc)
+
 -- the amount caps nothing there: no such arc, or not an amount that it may carry
 abbrev pub nothingAt : Option Road → ℕ → Bool
 nothingAt None u = true

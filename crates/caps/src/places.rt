@@ -38,7 +38,7 @@ pub struct Places {
 
 impl Places {
     /// A row whose places are all free.
-    pub fn new(heap: Global) -> Result<Places, AllocError>
+    pub(crate) fn new(heap: Global) -> Result<Places, AllocError>
         ensures { λ r. ⌜ made r (λ p. vec-items (p .entries) ≡ replicate place-count free) ⌝ }
     {
         let entries = vec![in heap; FREE; PLACES]?;
@@ -46,14 +46,14 @@ impl Places {
     }
 
     /// The entries of all places, the lowest place first.
-    pub fn as_slice(&self) -> &[CapEntry]
+    pub(crate) fn as_slice(&self) -> &[CapEntry]
         ensures { λ r. ⌜ now r ≡ vec-items (now (self .entry) .entries) ⌝ }
     {
         self.entries.as_slice()
     }
 
     /// Lends the entry of one place for change. Every other place stays.
-    pub fn entry(&mut self, place: usize) -> &mut CapEntry
+    pub(crate) fn entry(&mut self, place: usize) -> &mut CapEntry
         requires { ⌜ place < vec-len (now self .entries) ⌝ }
         ensures { λ r. sem 𝓤 H A (follows places-row entry-row (name (self .entry)) (name r) (λ w. record { entries = with-item (now (self .entry) .entries) place w })) ∗ ⌜ now r ≡ getD (vec-items (now (self .entry) .entries)) place (now r) ⌝ }
     {

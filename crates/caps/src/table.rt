@@ -5,7 +5,8 @@ ghost use lib.ListN.{getD, set, replicate};
 ghost use Rattle.std.specs.Of.Vec.{vec-items, vec-len};
 ghost use Rattle.std.specs.Options.{Cases as BySome};
 ghost use Rattle.std.specs.Vec.{made};
-ghost use Rattle.caps.specs.Caps.{place-count, free, capOf, Once, Unnamed, Names};
+ghost use Rattle.std.specs.Orderings.{When};
+ghost use Rattle.caps.specs.Caps.{place-count, free, capOf, Once, Unnamed, Names, Added, No-room};
 use crate::places::CapEntry;
 use crate::places::FREE;
 use crate::places::Places;
@@ -29,8 +30,24 @@ impl CapTable {
         Ok(CapTable { places })
     }
 
+    /// Adds an entry for an arc that has none, in the lowest free place, and says whether it did. It may cap nothing.
+    pub fn add(&mut self, arc: u16, amount: u16) -> bool
+        ensures { λ r. ⌜ When r (Added (vec-items (now (self .entry) .places .entries)) (vec-items (now (self .exit) .places .entries)) arc amount) ((now (self .exit) ≡ now (self .entry)) × No-room (vec-items (now (self .entry) .places .entries)) arc) ⌝ }
+    {
+        if self.find(usize::from(arc)).is_some() {
+            return false;
+        }
+        match self.find(usize::from(FREE.arc)) {
+            Some(place) => {
+                self.put(place, CapEntry { arc, amount });
+                true
+            }
+            None => false,
+        }
+    }
+
     /// The entry of a place.
-    pub fn at(&self, place: usize) -> CapEntry
+    pub(crate) fn at(&self, place: usize) -> CapEntry
         requires { ⌜ place < place-count ⌝ }
         ensures { λ r. ⌜ r ≡ getD (vec-items (now (self .entry) .places .entries)) place free ⌝ }
     {
@@ -38,7 +55,7 @@ impl CapTable {
     }
 
     /// The lowest place whose entry names the arc.
-    pub fn find(&self, arc: usize) -> Option<usize>
+    pub(crate) fn find(&self, arc: usize) -> Option<usize>
         ensures { λ r. ⌜ BySome r (Unnamed (vec-items (now (self .entry) .places .entries)) arc) (Names (vec-items (now (self .entry) .places .entries)) arc) ⌝ }
     {
         for (place, entry) in self.places.as_slice().iter().enumerate() {
@@ -50,7 +67,7 @@ impl CapTable {
     }
 
     /// The cap on the arc, if the table has one.
-    pub fn amount(&self, arc: usize) -> Option<u16>
+    pub(crate) fn amount(&self, arc: usize) -> Option<u16>
         ensures { λ r. ⌜ r ≡ capOf (vec-items (now (self .entry) .places .entries)) arc ⌝ }
     {
         match self.find(arc) {
@@ -60,7 +77,7 @@ impl CapTable {
     }
 
     /// Changes the amount of one entry, and no other.
-    pub fn change(&mut self, place: usize, amount: u16)
+    pub(crate) fn change(&mut self, place: usize, amount: u16)
         requires { ⌜ place < place-count ⌝ }
         ensures { λ _. ⌜ vec-items (now (self .exit) .places .entries) ≡ set (vec-items (now (self .entry) .places .entries)) place (record { arc = getD (vec-items (now (self .entry) .places .entries)) place free .arc; amount = amount }) ⌝ }
     {
@@ -68,7 +85,7 @@ impl CapTable {
     }
 
     /// Frees one place.
-    pub fn clear(&mut self, place: usize)
+    pub(crate) fn clear(&mut self, place: usize)
         requires { ⌜ place < place-count ⌝ }
         ensures { λ _. ⌜ vec-items (now (self .exit) .places .entries) ≡ set (vec-items (now (self .entry) .places .entries)) place free ⌝ }
     {
@@ -76,7 +93,7 @@ impl CapTable {
     }
 
     /// Puts a cap on an arc that has none into a place, over what stands there.
-    pub fn put(&mut self, place: usize, entry: CapEntry)
+    pub(crate) fn put(&mut self, place: usize, entry: CapEntry)
         requires { ⌜ place < place-count ⌝ ∗ ⌜ Unnamed (vec-items (now self .places .entries)) (entry .arc) ⌝ }
         ensures { λ _. ⌜ vec-items (now (self .exit) .places .entries) ≡ set (vec-items (now (self .entry) .places .entries)) place entry ⌝ }
     {

@@ -3,6 +3,9 @@ mod counted;
 
 use account::asked::account_of_network;
 use account::lines::account_lines;
+use caps::layer::Cap;
+use caps::layer::CapNetwork;
+use caps::table::CapTable;
 use counted::Counted;
 use counted::CountedNetwork;
 use floors::floor::Floor;
@@ -65,9 +68,18 @@ fn run(rt: &LibcRuntime) -> Result<(), AnyError> {
     show(rt, "exchange twice", Exchange::new(Exchange::new(table())))?;
     show(rt, "floor of table", Floor::new(table()))?;
     show(rt, "floor of floor", Floor::new(Floor::new(table())))?;
+    show(rt, "cap of cap", Cap::new(capped(rt)?, idle_caps(rt)?))?;
+    show(
+        rt,
+        "exchange of floor of cap",
+        Exchange::new(Floor::new(capped(rt)?)),
+    )?;
     show(rt, "table at fault", Table::over(&ROADS, &[1, 2]))?;
     show_grid(rt)?;
-    let five = Exchange::new(Floor::new(Exchange::new(Floor::new(table()))));
+    let five = Exchange::new(Floor::new(Cap::new(
+        Exchange::new(Floor::new(capped(rt)?)),
+        idle_caps(rt)?,
+    )));
     let mut counted = Counted::new(five);
     show_asked(rt, "counted pile", &mut counted)?;
     let questions = counted.questions();
@@ -77,6 +89,27 @@ fn run(rt: &LibcRuntime) -> Result<(), AnyError> {
 
 fn table() -> Table<'static> {
     Table::over(&ROADS, &STOCKS)
+}
+
+// The table with its second road capped at 1, its third capped and then lifted again, and a cap that is refused.
+fn capped(rt: &LibcRuntime) -> Result<Cap<Table<'static>>, AnyError> {
+    let mut cap = Cap::new(table(), CapTable::new(rt.alloc())?);
+    let set = cap.cap(1, 1).is_ok() && cap.cap(2, 0).is_ok() && cap.cap(2, 4).is_ok();
+    if set && cap.cap(3, 0).is_err() {
+        Ok(cap)
+    } else {
+        Err("another cap".into())
+    }
+}
+
+// Caps that name no arc, or more than the arc may carry.
+fn idle_caps(rt: &LibcRuntime) -> Result<CapTable, AnyError> {
+    let mut table = CapTable::new(rt.alloc())?;
+    if table.add(9, 0) && table.add(0, 3) && !table.add(9, 1) {
+        Ok(table)
+    } else {
+        Err("another table".into())
+    }
 }
 
 fn show_grid(rt: &LibcRuntime) -> Result<(), AnyError> {
