@@ -4,7 +4,7 @@ use Rattle.network.specs.Net.{arc_count, size_of}
 use Rattle.network.proofs.Places.{nth_none}
 use Rattle.loading.proofs.Copies.{copied_more, copied_all}
 use Rattle.loading.proofs.load_roads.Goals as goal
-use Rattle.loading.proofs.load_roads.Goals.{in-Some, in-default}
+use Rattle.loading.proofs.load_roads.Goals.{in-Some, in_default}
 
 pub loop-i-preserved : goal.loop-i-preserved
 loop-i-preserved g c =
@@ -16,7 +16,7 @@ loop-i-preserved g c =
       c.arc.ensures.same ∙ same,
       elim c.match-arc.branch [
         | in-Some w ↦ w.row-is ∙ copied_more roads c.args.row.now c.loop-i.row c.loop-i.i w.in-Some.road (w.in-Some.ensures.value ∙ asked) (omega arith) c.loop-i.invariant.1
-        | in-default w ↦ absurd (omega (arith, nth_none roads c.loop-i.i (w.in-default.ensures.value ∙ asked)))
+        | in_default w ↦ absurd (omega (arith, nth_none roads c.loop-i.i (w.in_default.ensures.value ∙ asked)))
       ],
     )
 

@@ -6,7 +6,7 @@ use Rattle.network.specs.Net.{node_count, size_of}
 use Rattle.network.proofs.Places.{nth_none}
 use Rattle.loading.proofs.Copies.{copied_more, copied_all, stock_within}
 use Rattle.loading.proofs.load_stocks.Goals as goal
-use Rattle.loading.proofs.load_stocks.Goals.{in-Some, in-default}
+use Rattle.loading.proofs.load_stocks.Goals.{in-Some, in_default}
 
 pub loop-i-preserved : goal.loop-i-preserved
 loop-i-preserved g c =
@@ -18,7 +18,7 @@ loop-i-preserved g c =
       c.stock.ensures.same ∙ same,
       elim c.match-stock.branch [
         | in-Some w ↦ w.row-is ∙ ap (set c.loop-i.row c.loop-i.i) (let f : SFits w64 w.in-Some.stock = search rules in let h : SFits w32 w.narrow.result = search rules in to_z-of_z w32 w.narrow.result h ∙ w.narrow.ensures ∙ to_z-of_z w64 w.in-Some.stock f) ∙ copied_more stocks c.args.row.now c.loop-i.row c.loop-i.i w.in-Some.stock (w.in-Some.ensures.value ∙ asked) (omega arith) c.loop-i.invariant.1
-        | in-default w ↦ absurd (omega (arith, nth_none stocks c.loop-i.i (w.in-default.ensures.value ∙ asked)))
+        | in_default w ↦ absurd (omega (arith, nth_none stocks c.loop-i.i (w.in_default.ensures.value ∙ asked)))
       ],
     )
 

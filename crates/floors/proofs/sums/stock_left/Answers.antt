@@ -5,11 +5,11 @@ use Rattle.floors.proofs.Near.{Kept}
 use Rattle.floors.proofs.sums.stock_left.Given as given
 use Rattle.floors.proofs.sums.stock_left.Goals as goal
 
-pub overflow-sub-result : goal.overflow-sub-result
-overflow-sub-result g c =
+pub overflow_sub-result : goal.overflow_sub-result
+overflow_sub-result g c =
     let n = g.N.Network.meaning c.args.network.now
-    in let gone = c.least-leaving-gone.ensures.value ∙ ap (λ m. leaving c.args.node m.roads) c.size-arcs.ensures.same
-    in (less_of n (g.N.Network.laws c.args.network.now) c.args.node c.args.stock c.from.result c.requires c.ranges.stock record { sfits = c.from.type-inv } (c.from.ensures ∙ ap pos gone)).0
+    in let gone = c.least_leaving-gone.ensures.value ∙ ap (λ m. leaving c.args.node m.roads) c.size-arcs.ensures.same
+    in (less_of n (g.N.Network.laws c.args.network.now) c.args.node c.args.stock c.from.result c.requires c.ranges.stock record { sfits = c.from.type_inv } (c.from.ensures ∙ ap pos gone)).0
 
 -- the sum, with what has left said of the network as it came, and so what has arrived
 total : (g : given.Over) (c : goal.After-from-2 g)
@@ -18,13 +18,13 @@ total : (g : given.Over) (c : goal.After-from-2 g)
 total g c =
     let n = g.N.Network.meaning c.args.network.now
     in let h = g.N.Network.laws c.args.network.now
-    in let gone = c.least-leaving-gone.ensures.value ∙ ap (λ m. leaving c.args.node m.roads) c.size-arcs.ensures.same
-    in let come = c.least-arriving-come.ensures.value ∙ ap (λ m. arriving c.args.node m.roads) (c.least-leaving-gone.ensures.same ∙ c.size-arcs.ensures.same)
-    in let less = less_of n h c.args.node c.args.stock c.from.result c.requires c.ranges.stock record { sfits = c.from.type-inv } (c.from.ensures ∙ ap pos gone)
-    in left_of n h c.args.node c.args.stock _ c.from-2.result c.requires less.1 record { sfits = c.from-2.type-inv } (c.from-2.ensures ∙ ap pos come)
+    in let gone = c.least_leaving-gone.ensures.value ∙ ap (λ m. leaving c.args.node m.roads) c.size-arcs.ensures.same
+    in let come = c.least_arriving-come.ensures.value ∙ ap (λ m. arriving c.args.node m.roads) (c.least_leaving-gone.ensures.same ∙ c.size-arcs.ensures.same)
+    in let less = less_of n h c.args.node c.args.stock c.from.result c.requires c.ranges.stock record { sfits = c.from.type_inv } (c.from.ensures ∙ ap pos gone)
+    in left_of n h c.args.node c.args.stock _ c.from-2.result c.requires less.1 record { sfits = c.from-2.type_inv } (c.from-2.ensures ∙ ap pos come)
 
-pub overflow-add-result : goal.overflow-add-result
-overflow-add-result g c = (total g c).0
+pub overflow_add-result : goal.overflow_add-result
+overflow_add-result g c = (total g c).0
 
 pub returns : goal.returns
-returns g c = record { value = (total g c).1; same = c.least-arriving-come.ensures.same ∙ c.least-leaving-gone.ensures.same ∙ c.size-arcs.ensures.same }
+returns g c = record { value = (total g c).1; same = c.least_arriving-come.ensures.same ∙ c.least_leaving-gone.ensures.same ∙ c.size-arcs.ensures.same }

@@ -4,14 +4,14 @@ use Rattle.lines.specs.Number.{continued}
 use Rattle.lines.proofs.Figures.{pow_more, pow_short}
 use Rattle.lines.proofs.number.magnitude.Goals as goal
 
-pub overflow-mul-n : goal.overflow-mul-n
-overflow-mul-n c = omega (arith, pow_short c.loop-d.d-index 6 (omega arith))
+pub overflow_mul-n : goal.overflow_mul-n
+overflow_mul-n c = omega (arith, pow_short c.loop-d.d-index 6 (omega arith))
 
-pub overflow-sub-d : goal.overflow-sub-d
-overflow-sub-d c = omega (arith, c.requires.1 c.loop-d.d-index (omega arith))
+pub overflow_sub-d : goal.overflow_sub-d
+overflow_sub-d c = omega (arith, c.requires.1 c.loop-d.d-index (omega arith))
 
-pub overflow-add-n : goal.overflow-add-n
-overflow-add-n c = omega (arith, pow_short c.loop-d.d-index 6 (omega arith), c.requires.1 c.loop-d.d-index (omega arith))
+pub overflow_add-n : goal.overflow_add-n
+overflow_add-n c = omega (arith, pow_short c.loop-d.d-index 6 (omega arith), c.requires.1 c.loop-d.d-index (omega arith))
 
 pub loop-d-preserved : goal.loop-d-preserved
 loop-d-preserved c = (

@@ -5,8 +5,8 @@ use Rattle.lines.proofs.number.run_len.Goals as goal
 pub loop-n-preserved : goal.loop-n-preserved
 loop-n-preserved c = (omega arith, run_more _ _ _ (omega arith) (search rules) c.loop-n.invariant.1)
 
-pub returns-else-is-ascii-digit : goal.returns-else-is-ascii-digit
-returns-else-is-ascii-digit c =
+pub returns-else-is_ascii_digit : goal.returns-else-is_ascii_digit
+returns-else-is_ascii_digit c =
     let e = run_stop c.args.bytes.now _ _ (omega arith) (search rules) c.loop-n.invariant.1 in
     record { value = e; bound = omega arith; digits = run_digits _ _ e }
 

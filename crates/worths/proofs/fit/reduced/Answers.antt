@@ -9,7 +9,7 @@ returns g c =
     let value = g.W.Worth.value in
     let arc = c.args.arc in
     let price = row_of value c.args.prices.now in
-    let reads = reduced_wraps (row_of value c.args.worths.now arc) price (road_at c.args.roads.now arc) c.road-at-road.result in
-    let sums = reads _ _ _ _ _ _ c.road-at-road.ensures c.entry.ensures c.entry-tail.ensures c.entry-head.ensures in
+    let reads = reduced_wraps (row_of value c.args.worths.now arc) price (road_at c.args.roads.now arc) c.road_at-road.result in
+    let sums = reads _ _ _ _ _ _ c.road_at-road.ensures c.entry.ensures c.entry-tail.ensures c.entry-head.ensures in
     let is = sums c.add.ensures.wraps c.negate.ensures.wraps c.add-2.ensures.wraps in
     record { exact = exact_from_wraps _ _ is; wraps = is }

@@ -11,7 +11,7 @@ returns g c =
     let net = g.N.Network.meaning c.args.self.now.below in
     let road = c.in-Some.road in
     let at = c.in-Some.ensures.value in
-    let fit : within road c.args.amount ≡ true = sym c.if-not-may-carry.ensures in
+    let fit : within road c.args.amount ≡ true = sym c.if-not-may_carry.ensures in
     let low : c.args.amount < road.most = within_below road c.args.amount fit c.if-amount-road.false in
     let lowers =
     subst (λ n. Lowers c.lower.result (c.lower.new.self.table ≡ c.args.self.now.table) es left n.roads c.args.arc c.args.amount road)
@@ -25,24 +25,24 @@ returns g c =
       same = same;
     }
 
-pub returns-in-default : goal.returns-in-default
-returns-in-default g c =
+pub returns-in_default : goal.returns-in_default
+returns-in_default g c =
     let es = vec_items c.args.self.now.table.places.entries in
     let net = g.N.Network.meaning c.args.self.now.below in
     let others = count_by (caps_other net.roads c.args.arc) es in
     record {
       done = refl;
       meant = ap (capped (cap_of es)) c.arc.ensures.same;
-      answer = (1, no_arc others c.args.arc c.args.amount net.roads c.in-default.ensures.value, (refl, refl));
+      answer = (1, no_arc others c.args.arc c.args.amount net.roads c.in_default.ensures.value, (refl, refl));
       same = c.arc.ensures.same;
     }
 
-pub returns-then-not-may-carry : goal.returns-then-not-may-carry
-returns-then-not-may-carry g c =
+pub returns-then-not-may_carry : goal.returns-then-not-may_carry
+returns-then-not-may_carry g c =
     let es = vec_items c.args.self.now.table.places.entries in
     let net = g.N.Network.meaning c.args.self.now.below in
     let others = count_by (caps_other net.roads c.args.arc) es in
-    let out = sym c.if-not-may-carry.ensures in
+    let out = sym c.if-not-may_carry.ensures in
     record {
       done = refl;
       meant = ap (capped (cap_of es)) c.arc.ensures.same;
@@ -64,6 +64,6 @@ returns-then-amount-road g c =
     record {
       done = done;
       meant = kept_means es left net (g.N.Network.meaning c.lift.new.self.below) c.args.arc c.args.amount same done;
-      answer = no_fault others c.args.arc c.args.amount net.roads c.in-Some.road at (sym c.if-not-may-carry.ensures) (inl top);
+      answer = no_fault others c.args.arc c.args.amount net.roads c.in-Some.road at (sym c.if-not-may_carry.ensures) (inl top);
       same = same;
     }

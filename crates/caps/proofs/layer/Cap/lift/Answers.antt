@@ -16,9 +16,9 @@ returns-in-Some g c =
       same = refl;
     }
 
-pub returns-in-default : goal.returns-in-default
-returns-in-default g c =
+pub returns-in_default : goal.returns-in_default
+returns-in_default g c =
     let es = vec_items c.args.self.now.table.places.entries in
     let net = g.N.Network.meaning c.args.self.now.below in
     let full : length es ≡ place_count = omega arith in
-    record { table = kept es net.roads c.args.arc c.args.road c.args.road.most full (sym c.requires) refl c.in-default.ensures; same = refl }
+    record { table = kept es net.roads c.args.arc c.args.road c.args.road.most full (sym c.requires) refl c.in_default.ensures; same = refl }

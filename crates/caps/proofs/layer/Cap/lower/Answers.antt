@@ -5,22 +5,22 @@ use Rattle.caps.specs.Caps.{place_count, free, Recapped}
 use Rattle.caps.proofs.Changes.{arc_small, road_of, changed, added, room_named, room_idle, room_none}
 use Rattle.caps.proofs.layer.Cap.lower.Goals as goal
 
-pub overflow-cast-amount : goal.overflow-cast-amount
-overflow-cast-amount g c =
+pub overflow_cast-amount : goal.overflow_cast-amount
+overflow_cast-amount g c =
     let net = g.N.Network.meaning c.args.self.now.below in
     let few = g.N.Network.laws c.args.self.now.below in
     let most = (road_of (Ranged (node_count net)) net.roads c.args.arc c.args.road few.ranged (sym c.requires.there)).most in
     record { fits = omega arith }
 
-pub overflow-cast-amount-2 : goal.overflow-cast-amount-2
-overflow-cast-amount-2 g c =
+pub overflow_cast-amount-2 : goal.overflow_cast-amount-2
+overflow_cast-amount-2 g c =
     let net = g.N.Network.meaning c.args.self.now.below in
     let few = g.N.Network.laws c.args.self.now.below in
     let most = (road_of (Ranged (node_count net)) net.roads c.args.arc c.args.road few.ranged (sym c.requires.there)).most in
     record { fits = omega arith }
 
-pub overflow-cast-arc : goal.overflow-cast-arc
-overflow-cast-arc g c =
+pub overflow_cast-arc : goal.overflow_cast-arc
+overflow_cast-arc g c =
     let net = g.N.Network.meaning c.args.self.now.below in
     let few = g.N.Network.laws c.args.self.now.below in
     let small = arc_small net.roads c.args.arc c.args.road few.arcs (sym c.requires.there) in
@@ -42,14 +42,14 @@ returns-in-Some g c =
       same = refl;
     }
 
-pub returns-in-default-idle-place : goal.returns-in-default-idle-place
-returns-in-default-idle-place g c =
+pub returns-in_default-idle_place : goal.returns-in_default-idle_place
+returns-in_default-idle_place g c =
     let es = vec_items c.args.self.now.table.places.entries in
     let net = g.N.Network.meaning c.args.self.now.below in
     let full : length es ≡ place_count = omega arith in
     record {
-      done = (room_none es net.roads c.args.arc full c.in-default.ensures c.in-default-idle-place.ensures.value, (refl, refl), refl);
-      same = c.idle-place.ensures.same;
+      done = (room_none es net.roads c.args.arc full c.in_default.ensures c.in_default-idle_place.ensures.value, (refl, refl), refl);
+      same = c.idle_place.ensures.same;
     }
 
 pub returns : goal.returns
@@ -58,13 +58,13 @@ returns g c =
     let net = g.N.Network.meaning c.args.self.now.below in
     let full : length es ≡ place_count = omega arith in
     let few = (g.N.Network.laws c.args.self.now.below).arcs in
-    let place = c.in-Some-idle-place.place in
-    let idles = c.in-Some-idle-place.ensures.value in
+    let place = c.in-Some-idle_place.place in
+    let idles = c.in-Some-idle_place.ensures.value in
     record {
       done = (
         room_idle es net.roads c.args.arc place full idles,
         subst (λ left. Recapped es left net.roads c.args.arc c.args.amount c.args.road) (sym c.put.ensures)
-            (added es net.roads c.args.arc c.args.road c.args.amount place (record { arc = c.args.arc; amount = c.args.amount }) c.args.self.now.table.once full few (sym c.requires.there) c.requires.fit c.requires.low c.in-default.ensures idles refl refl),
+            (added es net.roads c.args.arc c.args.road c.args.amount place (record { arc = c.args.arc; amount = c.args.amount }) c.args.self.now.table.once full few (sym c.requires.there) c.requires.fit c.requires.low c.in_default.ensures idles refl refl),
       );
-      same = c.idle-place.ensures.same;
+      same = c.idle_place.ensures.same;
     }

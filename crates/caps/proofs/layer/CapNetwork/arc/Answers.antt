@@ -10,7 +10,7 @@ returns-in-Some g c =
     let f = cap_of (vec_items c.args.self.now.table.places.entries) in
     let roads = (g.N.Network.meaning c.args.self.now.below).roads in
     record {
-      value = ap Some (c.bounded-by.ensures ∙ ap (λ o. bounded o c.in-Some.road) c.amount.ensures) ∙ ap (option_map (bounded (f c.args.arc))) c.in-Some.ensures.value ∙ sym (nth_bounded f roads c.args.arc);
+      value = ap Some (c.bounded_by.ensures ∙ ap (λ o. bounded o c.in-Some.road) c.amount.ensures) ∙ ap (option_map (bounded (f c.args.arc))) c.in-Some.ensures.value ∙ sym (nth_bounded f roads c.args.arc);
       same = ap (capped f) c.arc.ensures.same;
     }
 

@@ -3,4 +3,4 @@ use Rattle.caps.proofs.Rows.{read_place}
 use Rattle.caps.proofs.table.CapTable.at.Goals as goal
 
 pub returns : goal.returns
-returns c = read_place _ _ c.args.place _ c.as-slice.ensures (omega (arith, ap length c.as-slice.ensures))
+returns c = read_place _ _ c.args.place _ c.as_slice.ensures (omega (arith, ap length c.as_slice.ensures))

@@ -4,8 +4,8 @@ use Rattle.caps.specs.Caps.{place_count, free, Once}
 use Rattle.caps.proofs.Rows.{once_free}
 use Rattle.caps.proofs.table.CapTable.new.Goals as goal
 
-pub invariant-of-result : goal.invariant-of-result
-invariant-of-result c =
-    let e = c.in-ok-places.ensures in
-    let full : vec_len c.in-ok-places.places.entries ≡ place_count = omega (arith, ap length e, length-replicate place_count free) in
+pub invariant_of-result : goal.invariant_of-result
+invariant_of-result c =
+    let e = c.in_ok-places.ensures in
+    let full : vec_len c.in_ok-places.places.entries ≡ place_count = omega (arith, ap length e, length-replicate place_count free) in
     (full, (subst Once (sym e) (once_free place_count), tt))

@@ -6,8 +6,8 @@ use Rattle.network.proofs.Places.{nth_map}
 use Rattle.floors.proofs.Leasts.{room}
 use Rattle.floors.proofs.floor.FloorNetwork.arc.Goals as goal
 
-pub overflow-sub-result : goal.overflow-sub-result
-overflow-sub-result g c = room _ (g.N.Network.laws c.args.self.now.below) c.args.arc c.in-Some.road c.in-Some.ensures.value
+pub overflow_sub-result : goal.overflow_sub-result
+overflow_sub-result g c = room _ (g.N.Network.laws c.args.self.now.below) c.args.arc c.in-Some.road c.in-Some.ensures.value
 
 pub returns-in-Some : goal.returns-in-Some
 returns-in-Some g c =

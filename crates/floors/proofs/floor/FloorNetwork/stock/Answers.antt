@@ -11,11 +11,11 @@ returns-in-Some g c =
     let n = g.N.Network.meaning c.args.self.now.below
     in let b = c.in-Some.stock
     in let passed = to_z-of_z w64 b (search rules)
-    in let is = c.stock-left.ensures.value ∙ ap (λ m. stock_left m.roads c.args.node (to_z w64 (of_z w64 b))) c.stock.ensures.same ∙ ap (stock_left n.roads c.args.node) passed
+    in let is = c.stock_left.ensures.value ∙ ap (λ m. stock_left m.roads c.args.node (to_z w64 (of_z w64 b))) c.stock.ensures.same ∙ ap (stock_left n.roads c.args.node) passed
     in let found = ap (option_map (stock_left n.roads c.args.node)) c.in-Some.ensures.value
     in record {
-      value = ap Some (read c.stock-left.result _ record { sfits = c.stock-left.type-inv } is) ∙ found ∙ sym (nth_left n.roads c.args.node n.stocks);
-      same = ap floored (c.stock-left.ensures.same ∙ c.stock.ensures.same);
+      value = ap Some (read c.stock_left.result _ record { sfits = c.stock_left.type_inv } is) ∙ found ∙ sym (nth_left n.roads c.args.node n.stocks);
+      same = ap floored (c.stock_left.ensures.same ∙ c.stock.ensures.same);
     }
 
 pub returns-in-None : goal.returns-in-None

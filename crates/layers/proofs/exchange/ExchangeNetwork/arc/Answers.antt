@@ -6,7 +6,7 @@ use Rattle.layers.proofs.exchange.ExchangeNetwork.arc.Goals as goal
 
 pub returns-in-Some : goal.returns-in-Some
 returns-in-Some g c = record {
-  value = ap Some c.exchange-costs.ensures ∙ ap (option_map swapped) c.in-Some.ensures.value ∙ sym (nth_map swapped _ c.args.arc);
+  value = ap Some c.exchange_costs.ensures ∙ ap (option_map swapped) c.in-Some.ensures.value ∙ sym (nth_map swapped _ c.args.arc);
   same = ap exchanged c.arc.ensures.same;
 }
 
