@@ -5,12 +5,12 @@ use Rattle.planner.proofs.Told.{accounted, declined, from_start}
 use Rattle.planner.proofs.answer_by.Goals as goal
 
 pub returns-in-Ok : goal.returns-in-Ok
-returns-in-Ok c = IfOk-weaker c.account-lines.result _ _
+returns-in-Ok c = IfOk-weaker c.account_lines.result _ _
     (λ s e. accounted c.args.text.now c.args.roads.now c.read.new.roads c.args.stocks.now c.read.new.stocks c.in-Ok.field-0 (string_bytes s) c.requires.0 c.requires.1 c.in-Ok.ensures
-    (e ∙ ap account_lines (c.account-of.ensures ∙ from_start _ _ c.read.new.roads c.read.new.stocks)))
-    c.account-lines.ensures
+    (e ∙ ap account_lines (c.account_of.ensures ∙ from_start _ _ c.read.new.roads c.read.new.stocks)))
+    c.account_lines.ensures
 
 pub returns-in-Err : goal.returns-in-Err
-returns-in-Err c = IfOk-weaker c.refusal-line.result _ _
+returns-in-Err c = IfOk-weaker c.refusal_line.result _ _
     (λ s e. declined c.args.text.now c.args.roads.now c.read.new.roads c.args.stocks.now c.read.new.stocks c.in-Err.refusal (string_bytes s) c.requires.0 c.requires.1 c.in-Err.ensures e)
-    c.refusal-line.ensures
+    c.refusal_line.ensures

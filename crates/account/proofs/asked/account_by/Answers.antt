@@ -5,12 +5,12 @@ use Rattle.account.proofs.asked.account_by.Goals as goal
 
 pub returns : goal.returns
 returns g c =
-    let same = c.load-roads-arcs.ensures.same in
+    let same = c.load_roads-arcs.ensures.same in
     record {
-      value = c.account-of.ensures ∙ fronts (g.N.Network.meaning c.args.network.now).roads c.args.roads.now c.load-roads-arcs.new.row
-          (g.N.Network.meaning c.args.network.now).stocks c.args.stocks.now c.load-stocks-nodes.new.row c.load-roads-arcs.result c.load-stocks-nodes.result
-          c.load-roads-arcs.ensures.after c.load-roads-arcs.ensures.count
-          (c.load-stocks-nodes.ensures.after ∙ ap (λ m. m.stocks ++ drop c.load-stocks-nodes.result c.args.stocks.now) same)
-          (c.load-stocks-nodes.ensures.count ∙ ap node_count same);
-      same = c.load-stocks-nodes.ensures.same ∙ same;
+      value = c.account_of.ensures ∙ fronts (g.N.Network.meaning c.args.network.now).roads c.args.roads.now c.load_roads-arcs.new.row
+          (g.N.Network.meaning c.args.network.now).stocks c.args.stocks.now c.load_stocks-nodes.new.row c.load_roads-arcs.result c.load_stocks-nodes.result
+          c.load_roads-arcs.ensures.after c.load_roads-arcs.ensures.count
+          (c.load_stocks-nodes.ensures.after ∙ ap (λ m. m.stocks ++ drop c.load_stocks-nodes.result c.args.stocks.now) same)
+          (c.load_stocks-nodes.ensures.count ∙ ap node_count same);
+      same = c.load_stocks-nodes.ensures.same ∙ same;
     }

@@ -8,9 +8,9 @@ use Rattle.account.proofs.sums.wanting.Goals.{then-stock-lt0, else-stock-lt0}
 pub loop-stock-preserved : goal.loop-stock-preserved
 loop-stock-preserved c = elim c.if-stock-lt0.branch [
   | then-stock-lt0 w ↦ so_far_more _ 1 c.args.stocks.now c.loop-stock.stock-index c.loop-stock.count 1 _ (pos 0)
-      c.loop-stock-test.true (grind (arith, to_z-of_z, w.if-stock-lt0.true)) (omega arith) w.count_is c.loop-stock.invariant
+      c.loop-stock-test.true (grind (arith, to_z-of_z, w.if-stock-lt0.true)) (omega arith) w.count-is c.loop-stock.invariant
   | else-stock-lt0 w ↦ so_far_more _ 1 c.args.stocks.now c.loop-stock.stock-index c.loop-stock.count 0 _ (pos 0)
-      c.loop-stock-test.true (grind (arith, to_z-of_z, w.if-stock-lt0.false)) (omega arith) (omega (arith, w.count_is)) c.loop-stock.invariant
+      c.loop-stock-test.true (grind (arith, to_z-of_z, w.if-stock-lt0.false)) (omega arith) (omega (arith, w.count-is)) c.loop-stock.invariant
 ]
 
 pub returns : goal.returns

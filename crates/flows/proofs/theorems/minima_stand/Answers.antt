@@ -4,12 +4,12 @@ use Rattle.flows.proofs.theorems.minima_stand.Goals as goal
 pub returns : goal.returns
 returns c = record {
   lightest = lightest_by_prices;
-  as-light = fit_where_as_light;
+  as_light = fit_where_as_light;
   minimum = minimum_by_prices;
-  at-point = fit_at_point;
+  at_point = fit_at_point;
   opening = opening_by_prices;
   closing = closing_by_prices;
   searching = searching_by_prices;
   weighing = weighing_by_prices;
-  weighing-first = weighing_first_by_prices;
+  weighing_first = weighing_first_by_prices;
 }

@@ -8,4 +8,4 @@ pub invariant_of-result : goal.invariant_of-result
 invariant_of-result c =
     let e = c.in_ok-places.ensures in
     let full : vec_len c.in_ok-places.places.entries ≡ place_count = omega (arith, ap length e, length-replicate place_count free) in
-    (full, (subst Once (sym e) (once_free place_count), tt))
+    record { full = full; once = subst Once (sym e) (once_free place_count) }

@@ -6,9 +6,9 @@ use Rattle.forms.proofs.rest.Cursor.number.Goals as goal
 
 pub returns : goal.returns
 returns c =
-    let f : SFits w32 c.in-ok-value.value = search rules in
-    let p = c.in-ok-value.ensures in
+    let f : SFits w32 c.in_ok-value.value = search rules in
+    let p = c.in_ok-value.ensures in
     simp to_z-of_z (record {
-      reads = record { is = λ more. number_taken _ _ c.args.self.now.bytes.now c.args.self.now.place _ c.in-ok-value.value more p.0 p.1 };
+      reads = record { is = λ more. number_taken _ _ c.args.self.now.bytes.now c.args.self.now.place _ c.in_ok-value.value more p.0 p.1 };
       within = number_within _ _ c.args.self.now.bytes.now c.args.self.now.place _ p.0;
     })

@@ -5,4 +5,4 @@ use Rattle.text.proofs.draft.Draft.take.Goals as goal
 pub returns-in-None : goal.returns-in-None
 returns-in-None c =
     let none = c.in-None.ensures in
-    closed_line c.args.self.now c.args.form.now c.args.place c.no-word.result (λ z. none Stock) (λ l. none Arc) c.no-word.ensures
+    closed_line c.args.self.now c.args.form.now c.args.place c.no_word.result (λ z. none Stock) (λ l. none Arc) c.no_word.ensures
