@@ -1,4 +1,6 @@
 // The account of a consignment that is given as rows.
+#![tactic(auto)]
+
 pub mod account;
 pub mod asked;
 pub mod lines;

@@ -1,4 +1,6 @@
 // The reader of texts behind a C interface. It is only for the comparison in compare/: no contract says what it answers.
+#![tactic(auto)]
+
 use network::limits::MAX_ARCS;
 use network::refusal::Refusal;
 use network::road::Road;

@@ -1,4 +1,6 @@
 // The layer that lowers the mosts of some arcs.
+#![tactic(auto)]
+
 mod asks;
 pub mod layer;
 pub mod places;

@@ -1,4 +1,6 @@
 // cases: prints, for each name that it is given, the name and what the planner answers to the text of NAME.txt.
+#![tactic(auto)]
+
 use network::limits::MAX_TEXT;
 use planner::answer;
 use std::io::Read;

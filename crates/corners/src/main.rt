@@ -1,4 +1,6 @@
 // corners: reads a carriage text from standard input and prints the account of the consignment, or why it is refused.
+#![tactic(auto)]
+
 use network::limits::MAX_TEXT;
 use planner::answer;
 use std::io::Read;

@@ -1,10 +1,10 @@
 -- What an engine promises.
-use Rattle.std.specs.Prelude.{◌≡◌, List, ℕ, suc, ◌<◌, ◌≤◌, ℤ, length, take}
-use Rattle.network.specs.Net.{Net, Lawful, node_count, rows_net}
+use Rattle.std.specs.Prelude.{List, ℕ, ◌<◌, length}
+use Rattle.network.specs.Net.{Net, node_count}
 use Rattle.network.specs.declared.road.Road.{Road}
 use Rattle.worths.specs.Kinds.{Pair, ranked}
 use Rattle.worths.specs.Fit.{Fits}
-use Rattle.worths.specs.Values.{NearPair, row_of, max_worth, max_price}
+use Rattle.worths.specs.Values.{NearPair, max_worth, max_price}
 use Rattle.flows.specs.Flows.{Flow}
 
 -- a worth for each arc, each part near enough to zero

@@ -1,4 +1,6 @@
 // Worked consignments, shown of the definitions: a reader can follow each by hand, and a definition that went astray would fail one of them.
+#![tactic(auto)]
+
 ghost use Rattle.examples.specs.Shortcuts.{TurnedRound, WithoutTieBreak};
 ghost use Rattle.examples.specs.Worked.{ConsignmentsStand};
 

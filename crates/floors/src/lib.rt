@@ -1,3 +1,5 @@
 // The layer that takes the least of every arc away beforehand.
+#![tactic(auto)]
+
 pub mod floor;
 mod sums;

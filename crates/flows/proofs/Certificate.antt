@@ -1,5 +1,5 @@
 -- What passes the test of certificates is the full list.
-use Rattle.std.proofs.Common.{◌≡◌, ℕ, Bool, true, false, ◌&&◌, T, List, [], ◌∷◌, map, ℤ, pos, ◌-ℤ◌, ◌*ℤ◌, ◌≤ℤ◌, ◌<ℤ◌, Some, None, Option, sym, refl, ap, ◌∙◌, subst, arith}
+use Rattle.std.proofs.Common.{◌≡◌, T, List, [], ◌∷◌, map, ℤ, pos, ◌-ℤ◌, ◌≤ℤ◌, ◌<ℤ◌, Some, None, Option, subst, arith}
 use lib.Signed.{lt_z}
 use Rattle.std.proofs.lemmas.Int.{ints}
 use Rattle.network.specs.Limits.{max_reach}
@@ -7,8 +7,8 @@ use Rattle.network.specs.Net.{Net, Lawful}
 use Rattle.worths.specs.Kinds.{plain, ranked, Pair}
 use Rattle.plane.proofs.Chains.{chain_of}
 use Rattle.plane.specs.Lists.{Turn, Sharp, Chain}
-use Rattle.plane.specs.Points.{Point, first, second, weigh, turn_p, turn_q, Least}
-use Rattle.flows.specs.Certificate.{Place, Step, Certificate, prices_of, pairs_of, is_sharp, turning, is_step, are_steps, is_certificate, points_of, CertificateStands}
+use Rattle.plane.specs.Points.{first, second, weigh, Least}
+use Rattle.flows.specs.Certificate.{Place, Step, prices_of, pairs_of, is_sharp, turning, is_step, are_steps, CertificateStands}
 use Rattle.flows.specs.Flows.{Flow, Points, point}
 use Rattle.flows.specs.Prices.{weighed, by_first, by_second}
 use Rattle.flows.specs.Tests.{is_flow_of, is_fit}

@@ -1,21 +1,19 @@
 -- Sums of whole numbers: multiples are products, and no sum is further from zero than its terms together.
-use Rattle.std.proofs.Common.{◌≡◌, ℕ, zero, suc, ◌+◌, ◌*◌, ◌<◌, ◌≤◌, T, List, [], ◌∷◌, length, get_or, ℤ, pos, ◌+ℤ◌, ◌-ℤ◌, ◌*ℤ◌, neg_ℤ, nat_abs, ◌≤ℤ◌, sym, refl, ap, ◌∙◌, ap₂, mul-le-mul_right, arith}
+use Rattle.std.proofs.Common.{◌≡◌, ℕ, zero, suc, ◌<◌, ◌≤◌, List, length, ℤ, pos, ◌+ℤ◌, ◌*ℤ◌, nat_abs, sym, refl, ap, ◌∙◌, ap₂, mul-le-mul_right, arith}
 use lib.IntN.{*ℤ_comm}
-use lib.Signed.{le_z}
-use borrow.Author.Differences.{same_out, same_in, lt_out, le_out, below_in, at_most_in, sum_is_lem, neg_is}
 use Rattle.std.proofs.lemmas.Int.{ints}
 use Rattle.numbers.specs.Totals.{total}
-use Rattle.numbers.proofs.Products.{lin, poly, sum_right, sum_left, neg_right, neg_left, to_left, far_of_product}
+use Rattle.numbers.proofs.Products.{poly, far_of_product}
 use Rattle.numbers.proofs.Totals.{total_le, total_part, total_list}
 use Rattle.network.proofs.Floored.{far_sum}
 use Rattle.network.specs.Arcs.{road_at, nowhere}
-use Rattle.network.specs.Net.{Net, Lawful, arc_count, span, reach_of}
+use Rattle.network.specs.Net.{Net, arc_count, span, reach_of}
 use Rattle.network.specs.declared.road.Road.{Road}
-use Rattle.worths.specs.Kinds.{plain, ranked, times, sum, Pair}
-use Rattle.worths.specs.Laws.{plain_ordered, ranked_ordered}
+use Rattle.worths.specs.Kinds.{plain, ranked, times, sum}
+use Rattle.worths.specs.Laws.{ranked_ordered}
 use Rattle.plane.specs.Points.{weigh}
-use Rattle.flows.specs.Flows.{Flow, on, cost_of, point, first_cost, second_cost}
-use Rattle.flows.specs.Prices.{worth_of, weighed, weighed_twice}
+use Rattle.flows.specs.Flows.{on, cost_of, point, first_cost, second_cost}
+use Rattle.flows.specs.Prices.{worth_of, weighed}
 use Rattle.flows.proofs.Sums as S
 
 -- ---- multiples are products

@@ -1,5 +1,5 @@
 -- A set of nodes that offers too much or too little admits no flow.
-use Rattle.std.proofs.Common.{◌≡◌, ℕ, zero, suc, ◌+◌, ◌<◌, ◌≤◌, Bool, true, false, cond, not, ◌&&◌, T, eqb, ◌⊎◌, List, length, ℤ, pos, ◌+ℤ◌, ◌-ℤ◌, neg_ℤ, ◌≤ℤ◌, ◌<ℤ◌, sym, refl, ap, ◌∙◌, subst, ap₂, inl, inr, arith}
+use Rattle.std.proofs.Common.{◌≡◌, ℕ, zero, suc, ◌<◌, ◌≤◌, Bool, true, false, cond, not, ◌&&◌, T, List, ℤ, pos, ◌+ℤ◌, ◌-ℤ◌, ◌<ℤ◌, sym, refl, ap, ◌∙◌, subst, inl, inr, arith}
 use lib.Signed.{le_z}
 use Rattle.std.proofs.lemmas.Int.{ints}
 use Rattle.numbers.specs.Totals.{total}
@@ -7,7 +7,7 @@ use Rattle.network.specs.Arcs.{road_at, stock_at}
 use Rattle.network.specs.Net.{Net, Lawful, node_count, arc_count}
 use Rattle.worths.specs.Kinds.{plain, times, sum}
 use Rattle.worths.specs.Laws.{plain_ordered}
-use Rattle.flows.specs.Flows.{Flow, on, outflow, inflow, HasNoFlow}
+use Rattle.flows.specs.Flows.{Flow, on, outflow, inflow}
 use Rattle.flows.specs.Cuts.{over_leaving, over_entering, stock_in, most_of, least_of, UnservedStands}
 use Rattle.flows.proofs.Duality.{tail_node, head_node}
 use Rattle.flows.proofs.Sums.{sum_same, sum_plus, sum_at_most, times_nil, telescope}

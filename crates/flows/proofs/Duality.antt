@@ -1,12 +1,12 @@
 -- Prices that fit a flow show that no flow is worth less, and fit every flow that is worth as much.
-use Rattle.std.proofs.Common.{◌≡◌, ℕ, zero, suc, ◌+◌, ◌-◌, ◌<◌, ◌≤◌, Bool, true, false, cond, not, T, eqb, List, length, ℤ, pos, ◌-ℤ◌, sym, refl, ap, ◌∙◌, subst, ap₂, arith}
+use Rattle.std.proofs.Common.{◌≡◌, ℕ, ◌+◌, ◌<◌, ◌≤◌, Bool, true, false, not, T, List, ℤ, pos, ◌-ℤ◌, sym, refl, ap, ◌∙◌, subst, ap₂, arith}
 use Rattle.std.proofs.lemmas.Int.{ints}
 use Rattle.std.proofs.ByRecursion.{All-get_or}
 use Rattle.network.specs.Arcs.{road_at, stock_at, nowhere}
 use Rattle.network.specs.Net.{Net, Lawful, node_count, arc_count}
 use Rattle.network.specs.Roads.{Ranged}
 use Rattle.worths.specs.Kinds.{Kind, Ordered, Above, Below, times, sum}
-use Rattle.worths.specs.Fit.{FitsArc, Fits, reduced}
+use Rattle.worths.specs.Fit.{Fits, reduced}
 use Rattle.flows.specs.Flows.{Flow, on, outflow, inflow}
 use Rattle.flows.specs.Prices.{worth_of, BestOf, SharedOf}
 use Rattle.flows.proofs.Sums as S

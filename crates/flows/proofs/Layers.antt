@@ -1,18 +1,17 @@
 -- The flows and points of a network under Exchange and under Floor.
-use Rattle.std.proofs.Common.{◌≡◌, ℕ, zero, suc, ◌+◌, ◌-◌, ◌<◌, ◌≤◌, Bool, true, false, cond, eqb, List, [], ◌∷◌, map, length, get_or, ℤ, pos, ◌+ℤ◌, ◌-ℤ◌, ◌*ℤ◌, sym, refl, ap, ◌∙◌, subst, ap₂, zero-add, arith}
+use Rattle.std.proofs.Common.{◌≡◌, ℕ, zero, suc, ◌+◌, ◌-◌, ◌<◌, Bool, true, false, cond, eqb, List, [], ◌∷◌, map, length, ℤ, pos, ◌+ℤ◌, ◌-ℤ◌, ◌*ℤ◌, sym, refl, ap, ◌∙◌, subst, ap₂, zero-add, arith}
 use lib.ListN.{get_or-map}
-use borrow.Author.Differences.{same_out, same_in, lt_out, le_out, below_in, at_most_in, sum_is_lem, neg_is}
 use Rattle.std.specs.List.{range_with_len}
 use Rattle.std.proofs.lemmas.List.FromFn.{length-map-range_with_len, get_or-map-range_with_len}
 use Rattle.std.proofs.ByRecursion.{All-get_or}
 use Rattle.std.proofs.lemmas.List.{length-map}
 use Rattle.std.proofs.lemmas.Int.{ints}
 use Rattle.numbers.specs.Totals.{total}
-use Rattle.numbers.proofs.Products.{lin, poly, sum_right, sum_left, neg_right, neg_left, to_left}
+use Rattle.numbers.proofs.Products.{poly}
 use Rattle.numbers.proofs.Totals.{total_same, total_add, total_list}
 use Rattle.network.specs.Arcs.{road_at, stock_at, nowhere}
 use Rattle.network.specs.Exchanged.{swapped, exchanged}
-use Rattle.network.specs.Floored.{lowered, leaving, arriving, stock_left, stocks_left, least_cost, floored}
+use Rattle.network.specs.Floored.{lowered, leaving, arriving, stock_left, least_cost, floored}
 use Rattle.network.specs.Net.{Net, Lawful, node_count, arc_count}
 use Rattle.network.specs.Roads.{Passable}
 use Rattle.network.specs.declared.road.Road.{Road}
@@ -20,7 +19,7 @@ use Rattle.network.proofs.Floored.{length_left, get_or_left}
 use Rattle.worths.specs.Kinds.{plain, sum}
 use Rattle.worths.specs.Laws.{plain_ordered}
 use Rattle.plane.specs.Points.{Point, swap}
-use Rattle.flows.specs.Flows.{Flow, on, outflow, inflow, cost_of, point, Points, HasNoFlow, first_cost, second_cost}
+use Rattle.flows.specs.Flows.{Flow, on, outflow, inflow, cost_of, point, Points, first_cost, second_cost}
 use Rattle.flows.proofs.Sums as S
 
 -- ---- a network whose every arc carries so many chests more than one of another network

@@ -1,5 +1,5 @@
 -- The points of a network's flows can be listed: rows within the mosts are finitely many, and whether one is a flow can be decided.
-use Rattle.std.proofs.Common.{◌≡◌, ℕ, ◌<◌, ◌≤◌, ◌⊎◌, List, [], ◌∷◌, map, length, get_or, ℤ, pos, ◌-ℤ◌, sym, refl, ap, ◌∙◌, subst, inl, inr}
+use Rattle.std.proofs.Common.{◌≡◌, ℕ, ◌<◌, ◌≤◌, ◌⊎◌, List, [], ◌∷◌, map, length, get_or, pos, ◌-ℤ◌, sym, ap, ◌∙◌, subst, inl, inr}
 use native.Mathlib.Decide.{dec_le, ℕ_discrete}
 use lib.IntN.{ℤ_discrete}
 use Rattle.std.proofs.lemmas.List.{get_or-map, length-map}

@@ -1,18 +1,17 @@
 -- Full lists of networks, and of networks under layers.
-use Rattle.std.proofs.Common.{◌≡◌, ℕ, List, [], refl}
+use Rattle.std.proofs.Common.{refl}
 use Rattle.network.specs.Exchanged.{exchanged}
 use Rattle.network.specs.Floored.{floored}
 use Rattle.network.specs.Limits.{max_reach}
-use Rattle.network.specs.Net.{Net, Lawful}
+use Rattle.network.specs.Net.{Net}
 use Rattle.plane.proofs.Exchanges.{same_of, exchange_of}
 use Rattle.plane.proofs.Facts.{facts_of}
 use Rattle.plane.proofs.Finite.{exists_of, empty_of}
 use Rattle.plane.proofs.Fronts.{unique_of}
 use Rattle.plane.proofs.Neighbours.{turns_of}
-use Rattle.plane.specs.Lists.{Full}
 use Rattle.plane.specs.Points.{Point, swap}
 use Rattle.flows.specs.Facts.{ReachStands, CornersStand, ListExists, ListUnique, EmptyIsNoFlow, NeighboursTurn}
-use Rattle.flows.specs.Flows.{Flow, Points, HasNoFlow, point}
+use Rattle.flows.specs.Flows.{Points, HasNoFlow, point}
 use Rattle.flows.specs.Layers.{ExchangeStands, ExchangeNoFlow, FloorStands, FloorNoFlow}
 use Rattle.flows.proofs.Layers.{exchange_points, exchange_points_back, floor_points, floor_points_back}
 use Rattle.flows.proofs.Listing.{points_listed}

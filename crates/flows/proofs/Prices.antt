@@ -1,15 +1,15 @@
 -- From prices that fit to lightest points and lexicographic minima; every point lies within the reach.
-use Rattle.std.proofs.Common.{◌≡◌, ℕ, ◌+◌, ◌<◌, ◌≤◌, Bool, true, false, ◌&&◌, ◌||◌, T, ◌⊎◌, List, ℤ, pos, ◌+ℤ◌, ◌*ℤ◌, nat_abs, ◌≤ℤ◌, ◌<ℤ◌, sym, refl, ap, ◌∙◌, subst, ap₂, inl, inr, arith}
+use Rattle.std.proofs.Common.{◌≡◌, ℕ, ◌≤◌, Bool, true, false, ◌&&◌, ◌||◌, T, List, ℤ, pos, ◌+ℤ◌, ◌*ℤ◌, nat_abs, ◌≤ℤ◌, sym, refl, ap, ◌∙◌, subst, arith}
 use lib.Signed.{lt_z, le_z}
 use Rattle.std.proofs.lemmas.Int.{ints}
 use Rattle.network.proofs.Floored.{far_sum}
 use Rattle.network.specs.Arcs.{road_at}
 use Rattle.network.specs.Limits.{max_reach}
-use Rattle.network.specs.Net.{Net, Lawful, reach_of}
+use Rattle.network.specs.Net.{Net, Lawful}
 use Rattle.worths.specs.Kinds.{plain, ranked, Pair, at_most_pair}
 use Rattle.worths.specs.Fit.{Fits}
 use Rattle.worths.specs.Laws.{plain_ordered, ranked_ordered}
-use Rattle.plane.specs.Points.{Point, first, second, weigh, Least, Within}
+use Rattle.plane.specs.Points.{first, second, weigh, Least, Within}
 use Rattle.plane.proofs.Minima.{least_alike, weigh_of, weigh_first_of}
 use Rattle.plane.proofs.Sides.{weigh_first, weigh_second}
 use Rattle.flows.specs.Flows.{Flow, on, point, Points, cost_of, first_cost, second_cost}

@@ -1,20 +1,20 @@
 -- What the tests show.
-use Rattle.std.proofs.Common.{◌≡◌, ℕ, zero, suc, ◌+◌, ◌<◌, ◌≤◌, Bool, true, false, not, ◌&&◌, ◌||◌, T, eqb, ltb, leb, List, [], ◌∷◌, length, get_or, ℤ, pos, ◌-ℤ◌, nat_abs, sym, refl, ap, ◌∙◌, subst, arith, eqb→eq, ltb→lt, leb→le}
+use Rattle.std.proofs.Common.{◌≡◌, ℕ, zero, suc, ◌+◌, ◌<◌, Bool, true, false, not, ◌&&◌, ◌||◌, T, eqb, ltb, leb, List, [], ◌∷◌, length, ℤ, nat_abs, sym, refl, subst, arith, eqb→eq, ltb→lt, leb→le}
 use native.Mathlib.Decide.{ℕ_discrete}
 use lib.Signed.{le_z}
 use Rattle.std.specs.List.{AllByRecursion as All}
 use Rattle.std.proofs.lemmas.Int.{ints}
-use Rattle.network.specs.Arcs.{road_at, stock_at, nowhere}
+use Rattle.network.specs.Arcs.{road_at, stock_at}
 use Rattle.network.specs.Limits.{max_nodes, max_arcs, max_node, max_reach}
 use Rattle.network.specs.Net.{Net, Lawful, node_count, arc_count, touching, reach_of}
 use Rattle.network.specs.Roads.{Ranged, Passable}
 use Rattle.network.specs.Tested.{is_ranged, is_passable}
 use Rattle.network.specs.declared.road.Road.{Road}
 use Rattle.network.proofs.Tested.{from_ranged, from_passable}
-use Rattle.worths.specs.Kinds.{Kind, Above, Below}
-use Rattle.worths.specs.Fit.{Fits, FitsArc, reduced}
+use Rattle.worths.specs.Kinds.{Kind}
+use Rattle.worths.specs.Fit.{Fits, reduced}
 use Rattle.plane.specs.Points.{Point}
-use Rattle.flows.specs.Flows.{Flow, on, outflow, inflow, point, Points, first_cost, second_cost}
+use Rattle.flows.specs.Flows.{Flow, on, point, first_cost}
 use Rattle.flows.specs.Tests.{all_below, is_same, is_same_point, is_flow, is_flow_of, is_fit, is_lawful}
 
 pub both : (a b : Bool) → T (a && b) → T a × T b

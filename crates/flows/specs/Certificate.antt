@@ -1,5 +1,5 @@
 -- A certificate that some points are the full list of a network, and its test. Prices prove each corner and that none is missing; no engine is trusted.
-use Rattle.std.specs.Prelude.{◌≡◌, ℕ, Bool, true, ◌&&◌, T, List, [], ◌∷◌, map, ℤ, pos, ◌*ℤ◌, Some, None, Option, int_lt, slice_index_or}
+use Rattle.std.specs.Prelude.{ℕ, Bool, true, ◌&&◌, T, List, [], ◌∷◌, map, ℤ, pos, ◌*ℤ◌, Some, None, Option, int_lt, slice_index_or}
 use Rattle.network.specs.Net.{Net, Lawful}
 use Rattle.worths.specs.Kinds.{plain, ranked, Pair}
 use Rattle.plane.specs.Points.{Point, turn_p, turn_q}

@@ -2,7 +2,6 @@
 use Rattle.std.specs.Prelude.{◌≡◌, ℕ, T, List, ℤ, pos, ◌+ℤ◌, ◌*ℤ◌, ◌≤ℤ◌, ◌<ℤ◌}
 use Rattle.network.specs.Arcs.{road_at}
 use Rattle.network.specs.Net.{Net, Lawful, arc_count}
-use Rattle.network.specs.declared.road.Road.{Road}
 use Rattle.worths.specs.Kinds.{Kind, plain, ranked, times, sum, Pair}
 use Rattle.worths.specs.Fit.{Fits}
 use Rattle.plane.specs.Points.{Point, first, second, weigh, Least, Lightest}

@@ -1,5 +1,5 @@
 -- Tests that can be computed: that a row is a flow, that prices fit it, that a network keeps the laws.
-use Rattle.std.specs.Prelude.{ℕ, zero, suc, ◌+◌, Bool, true, false, not, ◌&&◌, ◌||◌, leb, List, [], length, ℤ, pos, ◌-ℤ◌, ◌==◌, int_le, nat_le, nat_lt, unsigned_abs}
+use Rattle.std.specs.Prelude.{ℕ, zero, suc, ◌+◌, Bool, true, ◌&&◌, ◌||◌, leb, List, length, ℤ, pos, ◌-ℤ◌, ◌==◌, int_le, nat_le, nat_lt, unsigned_abs}
 use Rattle.network.specs.Arcs.{road_at, stock_at}
 use Rattle.network.specs.Limits.{max_nodes, max_arcs, max_node, max_reach}
 use Rattle.network.specs.Net.{Net, node_count, arc_count, touching, reach_of}

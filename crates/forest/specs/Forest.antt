@@ -1,8 +1,8 @@
 -- A forest of residual steps: each node has a step to its parent, or is a root.
-use Rattle.std.specs.Prelude.{◌≡◌, ℕ, ◌<◌, ◌≤◌, ◌≢◌, ◌⊎◌, List, length, ℤ, pos, Some, None, Option, slice_index_or}
+use Rattle.std.specs.Prelude.{◌≡◌, ℕ, ◌<◌, ◌≢◌, ◌⊎◌, List, length, ℤ, pos, Some, None, Option, slice_index_or}
 use Rattle.network.specs.Arcs.{road_at}
 use Rattle.network.specs.declared.road.Road.{Road}
-use Rattle.residual.specs.Steps.{start, finish, flip, room, slack}
+use Rattle.residual.specs.Steps.{start, finish, flip, slack}
 use Rattle.residual.specs.declared.step.Step.{Step}
 
 -- ---- parents, whatever they are by

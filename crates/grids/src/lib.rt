@@ -1,4 +1,6 @@
 // Grids: networks that are computed and not stored.
+#![tactic(auto)]
+
 mod arcs;
 pub mod asked;
 pub mod grid;

@@ -1,9 +1,9 @@
 -- A list copied over another, one element after another.
-use Rattle.std.proofs.Common.{◌≡◌, ℕ, zero, suc, ◌+◌, ◌<◌, ◌≤◌, List, [], ◌∷◌, ◌++◌, length, get_or, take, drop, set, ℤ, pos, negsuc, nat_abs, Some, None, sym, refl, ap, ◌∙◌, add-one, arith, w32, SFits, rules}
+use Rattle.std.proofs.Common.{◌≡◌, ℕ, zero, suc, ◌+◌, ◌<◌, ◌≤◌, List, [], ◌∷◌, ◌++◌, length, get_or, take, drop, set, ℤ, pos, negsuc, nat_abs, Some, ap, ◌∙◌, add-one, arith, w32, SFits, rules}
 use Rattle.std.specs.List.{slice_get}
 use Rattle.std.proofs.lemmas.List.{take_all}
 use Rattle.network.specs.Limits.{max_node}
-use Rattle.network.specs.Net.{Net, Lawful, node_count}
+use Rattle.network.specs.Net.{Net, Lawful}
 use Rattle.network.proofs.Places.{nth_some}
 
 step : {X : Type 0} (xs ys : List X) (i : ℕ) (x : X) → Some x ≡ slice_get xs i → i < length ys → set (take i xs ++ drop i ys) i x ≡ take (suc i) xs ++ drop (suc i) ys

@@ -1,4 +1,6 @@
 // Copying what a network means into rows, by asking.
+#![tactic(auto)]
+
 ghost use Rattle.std.specs.Prelude.{◌≡◌, ◌≤◌, ◌++◌, length, drop, unsigned_abs};
 ghost use Rattle.network.specs.Limits.{max_node};
 ghost use Rattle.network.specs.Net.{node_count, arc_count};

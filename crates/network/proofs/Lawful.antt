@@ -1,10 +1,10 @@
 -- Rows whose numbers are within their limits make a lawful network.
-use Rattle.std.proofs.Common.{◌≡◌, ℕ, suc, ◌+◌, ◌*◌, ◌<◌, ◌≤◌, Bool, true, false, cond, ◌||◌, eqb, List, [], ◌∷◌, length, get_or, ℤ, pos, negsuc, neg_ℤ, nat_abs, ◌≤ℤ◌, sum_by, sym, refl, ap, ◌∙◌, subst, mul-le-mul, arith}
+use Rattle.std.proofs.Common.{ℕ, suc, ◌*◌, ◌<◌, ◌≤◌, Bool, true, false, cond, ◌||◌, eqb, List, length, get_or, ℤ, pos, negsuc, neg_ℤ, nat_abs, ◌≤ℤ◌, mul-le-mul, arith}
 use Rattle.std.specs.List.{AllByRecursion as All}
 use Rattle.std.proofs.ByRecursion.{All-weaker, All-get_or, sum_by_le}
 use Rattle.std.proofs.lemmas.Int.{ints}
-use Rattle.network.specs.Limits.{max_nodes, max_arcs, max_stock, max_most, max_cost, max_node, max_reach}
-use Rattle.network.specs.Net.{Net, Lawful, touch, touching, span, reach_of, rows_net}
+use Rattle.network.specs.Limits.{max_nodes, max_arcs, max_stock, max_most, max_cost}
+use Rattle.network.specs.Net.{Lawful, touch, touching, span, reach_of, rows_net}
 use Rattle.network.specs.Roads.{Near, Ranged, Passable}
 use Rattle.network.specs.declared.road.Road.{Road}
 

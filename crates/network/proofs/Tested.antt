@@ -1,11 +1,11 @@
 -- Rows pass the test exactly where their numbers are within their limits, and then make a lawful network.
-use Rattle.std.proofs.Common.{◌≡◌, ℕ, suc, ◌<◌, ◌≤◌, Bool, true, false, cond, not, ◌&&◌, eqb, ltb, leb, ◌⊎◌, List, [], ◌∷◌, length, ℤ, pos, neg_ℤ, ◌≤ℤ◌, Some, None, Option, sym, refl, ap, ◌∙◌, subst, inl, inr, ⊎_elim, arith}
+use Rattle.std.proofs.Common.{◌≡◌, ℕ, suc, ◌<◌, ◌≤◌, Bool, true, false, cond, not, ◌&&◌, eqb, ltb, leb, List, [], ◌∷◌, length, ℤ, pos, neg_ℤ, ◌≤ℤ◌, Some, None, Option, refl, ap, ◌∙◌, arith}
 use lib.Signed.{le_z}
 use Rattle.std.specs.List.{AllByRecursion as All}
 use Rattle.std.proofs.lemmas.Int.{ints}
 use Rattle.std.proofs.lemmas.Bool.{and_parts, and_from, ltb-true, lt-ltb, leb-true, le-leb, eqb-false, ne_eqb, not-true, cond-true, true≢false}
 use Rattle.network.specs.Limits.{max_nodes, max_arcs, max_stock, max_most, max_cost}
-use Rattle.network.specs.Net.{Net, Lawful, blank, rows_net}
+use Rattle.network.specs.Net.{Lawful, blank, rows_net}
 use Rattle.network.specs.Roads.{Near, Ranged, Passable}
 use Rattle.network.specs.Tested.{is_near, is_joined, is_bounded, is_costed, is_ranged, is_passable, is_sized, stock_fault, road_fault, or_else, row_fault, passed, table_net}
 use Rattle.network.specs.declared.refusal.Refusal.{Refusal}

@@ -1,5 +1,5 @@
 -- What a network means, and the laws that every network keeps.
-use Rattle.std.specs.Prelude.{ℕ, ◌+◌, ◌*◌, ◌<◌, ◌≤◌, Bool, cond, ◌||◌, List, [], ◌∷◌, length, ℤ, pos, sum_by, ◌==◌, slice_index_or, unsigned_abs}
+use Rattle.std.specs.Prelude.{ℕ, ◌+◌, ◌*◌, ◌<◌, ◌≤◌, cond, ◌||◌, List, [], ◌∷◌, length, ℤ, pos, sum_by, ◌==◌, slice_index_or, unsigned_abs}
 use Rattle.std.specs.List.{AllByRecursion as All}
 use Rattle.network.specs.Limits.{max_nodes, max_arcs, max_node, max_reach}
 use Rattle.network.specs.Roads.{Ranged, Passable}

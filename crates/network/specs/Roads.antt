@@ -1,6 +1,6 @@
 -- What the numbers of a road and of a stock may be.
 use Rattle.std.specs.Prelude.{◌≡◌, ℕ, ◌<◌, ◌≤◌, ℤ, pos, neg_ℤ, ◌≤ℤ◌}
-use Rattle.network.specs.Limits.{max_stock, max_most, max_cost}
+use Rattle.network.specs.Limits.{max_most, max_cost}
 use Rattle.network.specs.declared.road.Road.{Road}
 
 -- at most so far from zero

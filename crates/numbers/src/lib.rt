@@ -1,1 +1,3 @@
+#![tactic(auto)]
+
 // Lemmas on whole numbers, sums and rows that several crates share. There is no code here.

@@ -1,4 +1,6 @@
 // piles: the accounts of some networks and of layers piled on them.
+#![tactic(auto)]
+
 mod counted;
 
 use account::asked::account_of_network;

@@ -1,5 +1,5 @@
 -- What stands between two exchanges of the network simplex, and the number that each exchange lowers.
-use Rattle.std.specs.Prelude.{◌≡◌, ℕ, suc, ◌+◌, ◌*◌, ◌<◌, ◌≤◌, List, [], length, ℤ, pos, Some, None, Option}
+use Rattle.std.specs.Prelude.{◌≡◌, ℕ, suc, ◌+◌, ◌*◌, ◌≤◌, List, [], ℤ, Some, Option}
 use Rattle.network.specs.Net.{rows_net}
 use Rattle.network.specs.declared.road.Road.{Road}
 use Rattle.worths.specs.Heights.{height}

@@ -1,1 +1,3 @@
+#![tactic(auto)]
+
 // Exchanges of the network simplex.

@@ -1,9 +1,9 @@
 -- Neighbours of the full list: what lies between them, and what they weigh at their turning weights.
-use Rattle.std.proofs.Common.{◌≡◌, ℕ, ◌⊎◌, List, [], ◌∷◌, ◌++◌, ℤ, pos, ◌≤ℤ◌, ◌<ℤ◌, sym, refl, ap, subst, inl, inr, arith}
+use Rattle.std.proofs.Common.{◌⊎◌, List, [], ◌∷◌, ◌++◌, ◌≤ℤ◌, ◌<ℤ◌, sym, refl, ap, subst, inl, inr, arith}
 use Rattle.std.proofs.lemmas.Int.{by_lt_z}
 use Rattle.numbers.proofs.Products.{lin}
-use Rattle.plane.specs.Points.{Point, first, second, weigh, turn_p, turn_q, Corner, Least, Within}
-use Rattle.plane.specs.Lists.{In, Rises, Full, Candidate, Listed, Turn}
+use Rattle.plane.specs.Points.{Point, first, second, weigh, turn_p, turn_q, Corner, Least}
+use Rattle.plane.specs.Lists.{In, Rises, Candidate}
 use Rattle.plane.specs.Facts.{TurnsOf}
 use Rattle.plane.proofs.Corners.{corner_falls}
 use Rattle.plane.proofs.Finite.{least_listed}

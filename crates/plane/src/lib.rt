@@ -1,4 +1,6 @@
 // Corners of any set of points in the plane: the mathematics below every list of corners, with no network in sight.
+#![tactic(auto)]
+
 ghost use Rattle.plane.specs.Facts.{FactsOf};
 ghost use Rattle.plane.specs.Points.{Point};
 

@@ -1,12 +1,11 @@
 -- The account or the refusal is the one that the text calls for.
-use Rattle.std.proofs.Common.{◌≡◌, ℕ, ◌-◌, ◌≤◌, List, ◌++◌, length, take, drop, ℤ, Ok, Err, Result, sym, refl, ap, ◌∙◌, subst, arith}
+use Rattle.std.proofs.Common.{◌≡◌, ℕ, ◌-◌, List, length, take, drop, ℤ, Ok, Err, Result, sym, ap, ◌∙◌, subst, arith}
 use native.Mathlib.Nat.{sub-zero}
 use Rattle.std.proofs.lemmas.List.{take_at}
 use Rattle.network.specs.Limits.{max_nodes, max_arcs}
 use Rattle.network.specs.declared.refusal.Refusal.{Refusal}
 use Rattle.network.specs.declared.road.Road.{Road}
 use Rattle.text.specs.declared.sizes.Sizes.{Sizes}
-use Rattle.text.specs.Consignment.{IsConsignment}
 use Rattle.text.specs.Refused.{Refused}
 use Rattle.text.specs.Reader.{Filled, Answered}
 use Rattle.account.specs.Accounts.{account_of}

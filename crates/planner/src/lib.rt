@@ -1,3 +1,5 @@
+#![tactic(auto)]
+
 // What the program answers to a text.
 #[cfg(test)]
 mod tests;

@@ -1,4 +1,6 @@
 // Printed lines: the line of a refusal, and lines put into a caller's row.
+#![tactic(auto)]
+
 pub mod refused;
 pub mod row;
 #[cfg(test)]

@@ -1,14 +1,13 @@
 -- A push over one step: what it does to bounds, to the excess at its two ends, to the flow's worth and to the room of steps.
-use Rattle.std.proofs.Common.{◌≡◌, ℕ, zero, suc, ◌+◌, ◌-◌, ◌<◌, ◌≤◌, Bool, true, false, cond, not, eqb, ◌≢◌, List, length, set, ℤ, pos, ◌+ℤ◌, ◌-ℤ◌, ◌*ℤ◌, neg_ℤ, sym, refl, ap, ◌∙◌, subst, ap₂, arith}
+use Rattle.std.proofs.Common.{◌≡◌, ℕ, zero, suc, ◌+◌, ◌-◌, ◌<◌, ◌≤◌, Bool, true, false, cond, not, eqb, ◌≢◌, List, length, ℤ, pos, ◌+ℤ◌, ◌-ℤ◌, ◌*ℤ◌, neg_ℤ, sym, refl, ap, ◌∙◌, subst, arith}
 use native.Mathlib.Decide.{ℕ_discrete}
 use Rattle.std.proofs.lemmas.List.{get_or-set_same, get_or-set_other, length-set}
 use Rattle.std.proofs.lemmas.Int.{ints}
 use Rattle.numbers.specs.Totals.{total}
-use Rattle.numbers.proofs.Products.{lin, poly}
+use Rattle.numbers.proofs.Products.{poly}
 use Rattle.numbers.proofs.Totals.{total_change}
 use Rattle.network.specs.Arcs.{road_at, stock_at}
 use Rattle.network.specs.Net.{Net, node_count, arc_count}
-use Rattle.network.specs.declared.road.Road.{Road}
 use Rattle.worths.specs.Kinds.{plain, times, sum}
 use Rattle.worths.specs.Laws.{plain_ordered}
 use Rattle.flows.specs.Flows.{Flow, on, outflow, inflow}

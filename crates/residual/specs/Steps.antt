@@ -1,5 +1,5 @@
 -- Steps of the residual graph: over an arc, along it or back.
-use Rattle.std.specs.Prelude.{◌≡◌, ℕ, ◌+◌, ◌-◌, ◌<◌, ◌≤◌, Bool, cond, not, List, length, ℤ, pos, ◌+ℤ◌, ◌-ℤ◌, neg_ℤ, ◌==◌, slice_set}
+use Rattle.std.specs.Prelude.{◌≡◌, ℕ, ◌+◌, ◌-◌, ◌<◌, ◌≤◌, cond, not, List, length, ℤ, pos, ◌+ℤ◌, ◌-ℤ◌, neg_ℤ, ◌==◌, slice_set}
 use Rattle.network.specs.Arcs.{road_at, stock_at}
 use Rattle.network.specs.Net.{Net, node_count}
 use Rattle.network.specs.declared.road.Road.{Road}

@@ -1,4 +1,6 @@
 // Networks over rows of the caller's.
+#![tactic(auto)]
+
 pub mod held;
 pub mod table;
 pub mod test;

@@ -1,15 +1,14 @@
 -- The first line.
-use Rattle.std.proofs.Common.{◌≡◌, ℕ, ◌+◌, ◌-◌, ◌<◌, ◌≤◌, List, [], ◌∷◌, ◌++◌, length, take, ℤ, Ok, Err, Result, sym, refl, ap, ◌∙◌, subst, append-nil, zero-add, arith}
+use Rattle.std.proofs.Common.{◌≡◌, ℕ, ◌+◌, ◌-◌, List, [], ◌∷◌, ◌++◌, length, take, Ok, Err, Result, sym, ap, ◌∙◌, subst, append-nil, zero-add, arith}
 use Rattle.network.specs.Refusals.{SaysAt}
 use Rattle.network.specs.declared.refusal.Refusal.{Refusal}
-use Rattle.network.specs.declared.road.Road.{Road}
 use Rattle.forms.specs.Form.{net_items}
 use Rattle.lines.specs.Line.{LineAt}
 use Rattle.forms.specs.Scan.{Scanned, by, naturals}
 use Rattle.lines.specs.Word.{spelt, furthest}
 use Rattle.lines.specs.declared.word.Word.{Word}
 use Rattle.lines.specs.declared.word.Word.TheVariants.{Net}
-use Rattle.text.specs.Consignment.{net_form, text_of, ended, Sized}
+use Rattle.text.specs.Consignment.{net_form, ended, Sized}
 use Rattle.text.specs.Refused.{Begun, Faulty, FirstFault, no_word, bad_net}
 use Rattle.text.specs.Reader.{FirstRead}
 use Rattle.text.specs.Drafts.{Stopped}

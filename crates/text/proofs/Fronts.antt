@@ -1,15 +1,14 @@
 -- How the front of a text grows by a line.
-use Rattle.std.proofs.Common.{◌≡◌, ℕ, ◌+◌, ◌<◌, ◌≤◌, ◌⊎◌, List, [], ◌∷◌, ◌++◌, length, get_or, take, drop, ℤ, IsErrAnd, Ok, Err, Result, sym, refl, ap, ◌∙◌, subst, inl, inr, append_assoc, append-nil, add_assoc, arith}
+use Rattle.std.proofs.Common.{◌≡◌, ℕ, ◌+◌, ◌<◌, ◌≤◌, ◌⊎◌, List, [], ◌∷◌, ◌++◌, length, take, drop, ℤ, IsErrAnd, Ok, Err, Result, sym, refl, ap, ◌∙◌, subst, inl, inr, append_assoc, append-nil, add_assoc, arith}
 use Rattle.std.specs.List.{flat_map}
 use Rattle.std.proofs.ByRecursion.{All-push}
-use Rattle.std.proofs.lemmas.List.{length-append, take_more, take-append-drop, take-take, drop-take, flat_map_more, nil_from_length, take_all, length_push}
+use Rattle.std.proofs.lemmas.List.{take_more, take-append-drop, take-take, drop-take, flat_map_more, nil_from_length, length_push}
 use Rattle.network.specs.Refusals.{SaysAt}
 use Rattle.network.specs.declared.refusal.Refusal.{Refusal}
-use Rattle.network.specs.declared.refusal.Refusal.TheVariants.{Form}
 use Rattle.network.specs.declared.road.Road.{Road}
 use Rattle.lines.specs.Line.{LineAt, NoLine}
 use Rattle.text.specs.declared.draft.Draft.{Draft}
-use Rattle.text.specs.Consignment.{net_form, stock_form, arc_form, ended, text_of, Fitting}
+use Rattle.text.specs.Consignment.{net_form, stock_form, arc_form, ended, text_of}
 use Rattle.text.specs.Refused.{Begun, LineFault}
 use Rattle.text.specs.Drafts.{Holds, SameSizes, LineRead, a_stock, an_arc, LineTook, LinesTook, Completed, Stopped, no_end, bad_line}
 use Rattle.text.proofs.Entries.{once_more}

@@ -1,9 +1,9 @@
 -- One line more.
-use Rattle.std.proofs.Common.{◌≡◌, ℕ, ◌+◌, ◌-◌, ◌<◌, ◌≤◌, Bool, true, false, cond, eqb, ltb, ◌⊎◌, List, [], ◌∷◌, ◌++◌, length, get_or, take, set, ℤ, pos, Ok, Err, Result, sym, refl, ap, ◌∙◌, subst, inl, inr, ⊎_elim, arith}
+use Rattle.std.proofs.Common.{◌≡◌, ℕ, ◌+◌, ◌-◌, ◌<◌, Bool, true, false, cond, eqb, ltb, List, [], ◌∷◌, ◌++◌, length, get_or, take, ℤ, pos, Ok, Err, Result, sym, refl, ap, ◌∙◌, subst, inl, inr, arith}
 use Rattle.std.specs.List.{AllByRecursion as All}
 use Rattle.std.proofs.lemmas.List.{take_more_set, length-append}
-use Rattle.std.proofs.lemmas.Bool.{eqb-true, ltb-true, cases_Bool}
-use Rattle.network.specs.Limits.{max_nodes, max_arcs}
+use Rattle.std.proofs.lemmas.Bool.{eqb-true, ltb-true}
+use Rattle.network.specs.Limits.{max_nodes}
 use Rattle.network.specs.Refusals.{SaysAt}
 use Rattle.network.specs.declared.refusal.Refusal.{Refusal}
 use Rattle.network.specs.declared.road.Road.{Road}
@@ -14,7 +14,7 @@ use Rattle.lines.specs.declared.word.Word.TheVariants.{Net, Stock, Arc}
 use Rattle.text.specs.declared.draft.Draft.{Draft}
 use Rattle.text.specs.Consignment.{named}
 use Rattle.text.specs.Refused.{open_words, NoWord, Faulty, LineFault, no_word, bad_stock, named_twice, bad_arc, impassable}
-use Rattle.text.specs.Drafts.{Holds, SameSizes, StockPut, RoadPut, StockTook, RoadTook, LineRead, a_stock, an_arc, LineTook}
+use Rattle.text.specs.Drafts.{Holds, StockPut, RoadPut, StockTook, RoadTook, a_stock, an_arc, LineTook}
 use Rattle.text.proofs.Values.{stock_values, arc_values, faulty}
 use Rattle.text.proofs.Entries.{stocks_more, marks_more}
 

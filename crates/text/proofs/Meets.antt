@@ -1,22 +1,22 @@
 -- Two readings of one text agree as far as both go.
-use Rattle.std.proofs.Common.{◌≡◌, ℕ, suc, ◌+◌, ◌<◌, ◌≤◌, true, false, eqb, List, [], ◌∷◌, ◌++◌, length, get_or, take, drop, ℤ, pos, nat_abs, Ok, Err, Result, sym, refl, ap, ◌∙◌, subst, append_assoc, append-nil, add-zero, zero-add, arith}
+use Rattle.std.proofs.Common.{◌≡◌, ℕ, suc, ◌+◌, ◌<◌, ◌≤◌, false, eqb, List, [], ◌∷◌, ◌++◌, length, get_or, drop, ℤ, pos, nat_abs, Ok, Result, sym, refl, ap, ◌∙◌, subst, append_assoc, append-nil, add-zero, zero-add, arith}
 use Rattle.std.specs.List.{flat_map, AllByRecursion as All}
 use Rattle.std.proofs.lemmas.List.{append_cancel_left, take-append-drop, length-take-le}
-use Rattle.std.proofs.lemmas.Bool.{or_parts, or_from, eq-eqb, ne_eqb, true≢false}
+use Rattle.std.proofs.lemmas.Bool.{or_parts, or_from}
 use Rattle.network.specs.Limits.{max_nodes}
 use Rattle.network.specs.Roads.{Ranged, Passable}
 use Rattle.network.specs.declared.refusal.Refusal.{Refusal}
 use Rattle.network.specs.declared.road.Road.{Road}
 use Rattle.forms.specs.Form.{stock_items, arc_items, stock_numbers, road_numbers}
-use Rattle.forms.specs.Scan.{scan, naturals}
+use Rattle.forms.specs.Scan.{scan}
 use Rattle.lines.specs.Word.{spelt}
 use Rattle.lines.specs.declared.word.Word.TheVariants.{Stock, Arc}
-use Rattle.text.specs.Consignment.{net_form, stock_form, arc_form, ended, text_of, Sized, Stocked, Fitting, named, Once}
+use Rattle.text.specs.Consignment.{net_form, stock_form, arc_form, ended, text_of, Stocked, named, Once}
 use Rattle.text.specs.Refused.{Begun}
 use Rattle.text.proofs.Entries.{apart}
 use Rattle.text.proofs.Lines.{other_word}
-use Rattle.text.proofs.Judge.{first, first_good, judge, judge_stock_good, judge_arc_good, stock_read, arc_read}
-use Rattle.text.proofs.Cuts.{Unbroken, net_unbroken, stock_unbroken, arc_unbroken, cut_line}
+use Rattle.text.proofs.Judge.{judge, judge_stock_good, judge_arc_good, stock_read, arc_read}
+use Rattle.text.proofs.Cuts.{Unbroken, stock_unbroken, arc_unbroken, cut_line}
 
 -- what a later line names
 pub data Entry : Type 0 where

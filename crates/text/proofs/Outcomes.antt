@@ -1,7 +1,7 @@
 -- What reading comes to at each exit.
-use Rattle.std.proofs.Common.{◌≡◌, ℕ, ◌+◌, ◌<◌, ◌≤◌, ◌⊎◌, List, [], ◌∷◌, ◌++◌, length, get_or, take, drop, ℤ, pos, IsErrAnd, None, Ok, Err, Result, sym, refl, ap, ◌∙◌, subst, inl, inr, ⊎_elim, arith}
+use Rattle.std.proofs.Common.{◌≡◌, ℕ, ◌≤◌, List, ◌++◌, length, take, drop, ℤ, pos, IsErrAnd, None, Ok, Err, Result, sym, refl, ap, ◌∙◌, subst, arith}
 use Rattle.std.proofs.lemmas.List.{take_all, length-take-le, get_or-take}
-use Rattle.network.specs.Limits.{max_text, max_nodes, max_stock}
+use Rattle.network.specs.Limits.{max_text, max_stock}
 use Rattle.network.specs.Roads.{Near, Ranged}
 use Rattle.network.specs.Tested.{row_fault}
 use Rattle.network.proofs.Tested.{rows_pass}
@@ -10,10 +10,10 @@ use Rattle.network.specs.declared.road.Road.{Road}
 use Rattle.text.specs.declared.draft.Draft.{Draft}
 use Rattle.text.specs.declared.sizes.Sizes.{Sizes}
 use Rattle.text.specs.Consignment.{IsConsignment}
-use Rattle.text.specs.Refused.{Begun, Refused, no_end, bad_line}
+use Rattle.text.specs.Refused.{Refused, no_end, bad_line}
 use Rattle.text.specs.Drafts as drafts
 use Rattle.text.specs.Drafts.{Holds, SameSizes, Completed, Stopped}
-use Rattle.text.specs.Reader.{Filled, Taken, Outcome, Answered}
+use Rattle.text.specs.Reader.{Taken, Answered}
 use Rattle.std.specs.List.{AllByRecursion as All}
 use Rattle.std.proofs.ByRecursion.{All-from_get_or}
 use Rattle.text.proofs.Entries.{stock_near}

@@ -1,8 +1,8 @@
 -- A text is a consignment or has a first fault, and each in one way.
-use Rattle.std.proofs.Common.{◌≡◌, ℕ, ◌+◌, ◌<◌, ◌≤◌, Bool, true, false, cond, ◌||◌, eqb, ltb, ◌⊎◌, List, [], ◌∷◌, ◌++◌, length, get_or, take, drop, ℤ, pos, nat_abs, Some, None, Ok, Err, Option, Result, sym, refl, ap, ◌∙◌, subst, inl, inr, ⊎_elim, append-nil, zero-add, arith}
+use Rattle.std.proofs.Common.{◌≡◌, ℕ, ◌+◌, ◌<◌, ◌≤◌, cond, ◌||◌, eqb, ltb, ◌⊎◌, List, [], ◌∷◌, ◌++◌, length, get_or, drop, ℤ, pos, nat_abs, Some, None, Ok, Err, Option, Result, sym, refl, ap, ◌∙◌, subst, inl, inr, ⊎_elim, arith}
 use Rattle.std.specs.Option.{option_map}
 use Rattle.std.proofs.ByRecursion.{All-from_get_or}
-use Rattle.std.proofs.lemmas.List.{take_all, drop_all, ext_get_or}
+use Rattle.std.proofs.lemmas.List.{take_all, ext_get_or}
 use Rattle.std.proofs.lemmas.Bool.{cond-true, cond-false, ne_eqb, lt-ltb, le-ltb, or_left, or_right, or_from}
 use Rattle.network.specs.Limits.{max_text}
 use Rattle.network.specs.declared.refusal.Refusal.{Refusal}
@@ -16,10 +16,10 @@ use Rattle.text.specs.Consignment.{net_form, ended, Sized, IsConsignment, stock_
 use Rattle.text.specs.Refused.{Begun, LineFault, Refused, too_long, no_first, bad_first, short_rows, no_end, bad_line}
 use Rattle.text.specs.Drafts as drafts
 use Rattle.text.specs.Drafts.{Stopped}
-use Rattle.text.specs.Reader.{Filled, Taken, Outcome, Answered}
+use Rattle.text.specs.Reader.{Filled, Outcome, Answered}
 use Rattle.text.proofs.Judge.{first, first_good, first_bad, judge, judge_bad}
 use Rattle.text.proofs.Cuts.{Unbroken, net_unbroken, line_is, line_there, line_parts, line_unbroken, append_ended}
-use Rattle.text.proofs.Meets.{Entry, form_of, good_unbroken, Next, next_good, next_judged, Meeting, before, equal, after, meeting, begun_head}
+use Rattle.text.proofs.Meets.{Entry, form_of, good_unbroken, Next, next_good, next_judged, before, equal, after, meeting, begun_head}
 
 ok_not_err : {X : Type 0} (x : X) (e : Refusal) → ◌≡◌ {A = Result X Refusal} (Ok x) (Err e) → ⊥
 ok_not_err x e h = let z : ◌≡◌ {A = ℕ} 0 1 = cc in omega arith

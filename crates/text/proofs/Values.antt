@@ -1,17 +1,15 @@
 -- What the numbers of a line are, once they are read.
-use Rattle.std.proofs.Common.{◌≡◌, ℕ, ◌-◌, ◌<◌, ◌≤◌, List, [], ◌∷◌, ◌++◌, ℤ, pos, neg_ℤ, ◌≤ℤ◌, Ok, Err, sym, refl, subst, arith}
+use Rattle.std.proofs.Common.{◌≡◌, ℕ, ◌-◌, ◌<◌, ◌≤◌, List, ◌++◌, ℤ, pos, ◌≤ℤ◌, Ok, Err, sym, refl, subst, arith}
 use Rattle.std.proofs.lemmas.Int.{ints}
 use Rattle.network.specs.Limits.{max_nodes, max_arcs, max_most}
-use Rattle.network.specs.Roads.{Ranged, Near}
+use Rattle.network.specs.Roads.{Ranged}
 use Rattle.network.specs.declared.refusal.Refusal.{Refusal}
 use Rattle.network.specs.declared.road.Road.{Road}
 use Rattle.forms.specs.Form.{net_items, stock_items, arc_items, stock_numbers, road_numbers}
 use Rattle.forms.specs.Scan.{Item, Scanned, naturals}
 use Rattle.lines.specs.Word.{spelt}
-use Rattle.forms.specs.Written.{written}
 use Rattle.lines.specs.declared.word.Word.TheVariants.{Net, Stock, Arc}
-use Rattle.forms.proofs.Accepts.{sound, complete, points}
-use Rattle.forms.proofs.Plain.{net_plain, stock_plain, arc_plain}
+use Rattle.forms.proofs.Accepts.{sound, points}
 use Rattle.text.specs.Consignment.{net_form, stock_form, arc_form, Sized, Stocked}
 use Rattle.text.specs.Refused.{Faulty}
 

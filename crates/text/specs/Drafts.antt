@@ -1,5 +1,5 @@
 -- What a draft holds of a consignment that is being read.
-use Rattle.std.specs.Prelude.{◌≡◌, ℕ, ◌+◌, ◌<◌, ◌≤◌, true, false, ◌⊎◌, List, [], ◌∷◌, ◌++◌, length, take, ℤ, pos, Ok, Err, Result, slice_index_or, slice_set}
+use Rattle.std.specs.Prelude.{◌≡◌, ℕ, ◌+◌, ◌<◌, true, false, ◌⊎◌, List, [], ◌∷◌, ◌++◌, length, take, ℤ, pos, Ok, Err, Result, slice_index_or, slice_set}
 use Rattle.network.specs.Limits.{max_nodes}
 use Rattle.network.specs.Refusals.{SaysAt}
 use Rattle.network.specs.Roads.{Ranged, Passable}

@@ -1,5 +1,5 @@
 -- Why a text is refused: its first fault, in the order of its lines.
-use Rattle.std.specs.Prelude.{◌≡◌, ℕ, ◌+◌, ◌<◌, ◌≤◌, true, false, cond, ◌⊎◌, List, [], ◌∷◌, ◌++◌, length, take, ℤ, Err, ◌==◌, ◌≢◌, nat_lt}
+use Rattle.std.specs.Prelude.{◌≡◌, ℕ, ◌+◌, ◌<◌, ◌≤◌, true, cond, ◌⊎◌, List, [], ◌∷◌, ◌++◌, length, take, ℤ, Err, ◌==◌, ◌≢◌, nat_lt}
 use Rattle.std.specs.List.{AllByRecursion as All}
 use Rattle.network.specs.Limits.{max_text}
 use Rattle.network.specs.Refusals.{Says, SaysAt}

@@ -1,4 +1,6 @@
 // The carriage text: reading a consignment into rows.
+#![tactic(auto)]
+
 mod draft;
 mod filling;
 mod reader;

@@ -24,6 +24,7 @@ compared_parts a b c d = first (int_lt a c) (int_lt c a) refl refl
         let h : int_le b d ≡ true = grind (arith, ints) in
         let k : int_le d b ≡ true = grind (arith, ints) in
         simp (e, f, g, h, k, l, p, q)
+
     first : (s t : Bool) → int_lt a c ≡ s → int_lt c a ≡ t → ordering_then (int_cmp a c) (int_cmp b d) ≡ compared (a, b) (c, d)
     first true t e f =
         let g : int_lt c a ≡ false = grind (arith, ints) in

@@ -1,5 +1,5 @@
 -- How far a row of pairs, each part at most so far from zero, can still fall.
-use Rattle.std.specs.Prelude.{ℕ, suc, ◌+◌, ◌*◌, ℤ, pos, ◌+ℤ◌, unsigned_abs}
+use Rattle.std.specs.Prelude.{ℕ, suc, ◌+◌, ◌*◌, pos, ◌+ℤ◌, unsigned_abs}
 use Rattle.numbers.specs.Totals.{total}
 use Rattle.worths.specs.Kinds.{Pair}
 

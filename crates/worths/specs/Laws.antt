@@ -1,5 +1,5 @@
 -- Both kinds of worth keep the laws. The proofs stand here, and not in proofs/, since the code's kinds carry them as values.
-use Rattle.std.specs.Prelude.{◌≡◌, Bool, true, false, ◌&&◌, ◌||◌, T, ◌⊎◌, ℤ, ◌+ℤ◌, int_le, int_lt, refl}
+use Rattle.std.specs.Prelude.{◌≡◌, Bool, true, false, ◌&&◌, ◌||◌, T, ◌⊎◌, ℤ, int_le, int_lt, refl}
 use Rattle.std.proofs.Common.{ap₂, inl, inr, arith}
 use Rattle.std.proofs.lemmas.Int.{ints}
 use Rattle.std.proofs.Math.IntN.{+ℤ_assoc, +ℤ_comm, +ℤ_idr, +ℤ_invr}

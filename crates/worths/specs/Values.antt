@@ -1,5 +1,5 @@
 -- What a worth of the code means: a ranked pair of whole numbers, of which a plain number has 0 as its second part.
-use Rattle.std.specs.Prelude.{ℕ, ◌*◌, ◌^◌, ◌≤◌, cond, List, map, ℤ, pos, slice_index_or, unsigned_abs}
+use Rattle.std.specs.Prelude.{ℕ, ◌*◌, ◌^◌, ◌≤◌, cond, List, map, slice_index_or, unsigned_abs}
 use Rattle.std.specs.declared.cmp.Ordering.TheVariants.{Less, Equal, Greater}
 use Rattle.std.specs.declared.cmp.Ordering.{Ordering}
 use Rattle.std.specs.Int.{int_wrap, w64}

@@ -1,6 +1,6 @@
 use Rattle.std.proofs.Common.{◌≡◌, ◌++◌, length, take, drop, sym, ap, ◌∙◌, arith}
 use Rattle.std.specs.List.{slice_get}
-use Rattle.network.specs.Net.{arc_count, size_of}
+use Rattle.network.specs.Net.{arc_count}
 use Rattle.network.proofs.Places.{nth_none}
 use Rattle.loading.proofs.Copies.{copied_more, copied_all}
 use Rattle.loading.proofs.load_roads.Goals as goal

@@ -2,7 +2,7 @@ use Rattle.std.proofs.Common.{◌≡◌, ◌≤◌, ◌++◌, length, take, drop
 use Rattle.std.proofs.lemmas.Int.{to_z-of_z}
 use Rattle.network.specs.Limits.{max_node}
 use Rattle.std.specs.List.{slice_get}
-use Rattle.network.specs.Net.{node_count, size_of}
+use Rattle.network.specs.Net.{node_count}
 use Rattle.network.proofs.Places.{nth_none}
 use Rattle.loading.proofs.Copies.{copied_more, copied_all, stock_within}
 use Rattle.loading.proofs.load_stocks.Goals as goal

@@ -1,4 +1,4 @@
-use Rattle.std.proofs.Common.{◌++◌, length, drop, ap, ◌∙◌}
+use Rattle.std.proofs.Common.{◌++◌, drop, ap, ◌∙◌}
 use Rattle.network.specs.Net.{node_count}
 use Rattle.account.proofs.Fronts.{fronts}
 use Rattle.account.proofs.asked.account_by.Goals as goal

@@ -1,4 +1,3 @@
-use Rattle.std.proofs.Common.{rules}
 use Rattle.forms.specs.Scan.{naturals}
 use Rattle.forms.proofs.Steps.{line_fault, line_more, line_done, then, fails}
 use Rattle.forms.proofs.form.net.Goals as goal

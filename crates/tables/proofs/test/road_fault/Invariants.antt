@@ -1,5 +1,5 @@
 use Rattle.std.proofs.Common.{◌≡◌, drop}
-use Rattle.network.specs.Tested.{stock_fault, road_fault}
+use Rattle.network.specs.Tested.{road_fault}
 use Rattle.tables.proofs.test.road_fault.Given as goal
 
 abbrev pub invariant-loop-i : goal.invariant-loop-i

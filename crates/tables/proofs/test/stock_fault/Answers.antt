@@ -1,4 +1,4 @@
-use Rattle.std.proofs.Common.{◌≡◌, true, false, get_or, pos, sym, ap, ◌∙◌, w32, SFits, rules}
+use Rattle.std.proofs.Common.{get_or, pos, ap, ◌∙◌, w32, SFits, rules}
 use Rattle.std.proofs.lemmas.Int.{to_z-of_z}
 use Rattle.network.specs.Limits.{max_stock}
 use Rattle.network.specs.Tested.{is_near}

@@ -1,7 +1,6 @@
-use Rattle.std.proofs.Common.{◌≡◌, ◌++◌, ap, ◌∙◌, ⊎_elim, arith}
+use Rattle.std.proofs.Common.{◌++◌, ap, ◌∙◌}
 use Rattle.lines.specs.Word.{spelt}
-use Rattle.lines.specs.declared.word.Word.TheVariants.{Net, Stock, Arc}
-use Rattle.text.proofs.First.{net_line, start_is, other_first}
+use Rattle.text.proofs.First.{net_line, start_is}
 use Rattle.text.proofs.reader.first_known.Goals as goal
 
 pub returns-in-Net : goal.returns-in-Net

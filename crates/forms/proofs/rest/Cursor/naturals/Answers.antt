@@ -1,4 +1,3 @@
-use Rattle.std.proofs.Common.{rules}
 use Rattle.forms.specs.Scan.{naturals}
 use Rattle.forms.proofs.Steps.{refused, then, fails}
 use Rattle.forms.proofs.rest.Cursor.naturals.Goals as goal

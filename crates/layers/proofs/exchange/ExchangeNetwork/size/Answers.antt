@@ -1,7 +1,5 @@
-use Rattle.std.proofs.Common.{sym, ap, ◌∙◌}
-use Rattle.std.proofs.lemmas.List.{length-map}
-use Rattle.network.specs.declared.size.Size.{Size}
-use Rattle.network.specs.Exchanged.{swapped, exchanged}
+use Rattle.std.proofs.Common.{ap, ◌∙◌}
+use Rattle.network.specs.Exchanged.{exchanged}
 use Rattle.layers.proofs.Sizes.{size_exchanged}
 use Rattle.layers.proofs.exchange.ExchangeNetwork.size.Goals as goal
 
