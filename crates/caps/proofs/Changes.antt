@@ -1,6 +1,6 @@
 -- What a cap leaves, in each of the four ways that it can be kept, and when there is no place for it.
 use Rattle.std.proofs.Common.{◌≡◌, ℕ, zero, suc, ◌<◌, ◌≤◌, Bool, true, false, cond, not, ◌&&◌, eqb, ltb, leb, ◌⊎◌, List, [], ◌∷◌, length, get_or, set, Some, None, Ok, Err, count_by, Result, sym, refl, ap, ◌∙◌, subst, inl, inr, arith}
-use Rattle.std.specs.List.{slice_get, AllByRecursion as All}
+use Rattle.std.specs.List.{slice_get, AllByRecursion}
 use Rattle.std.proofs.lemmas.List.{length-set, get_or-set_same, get_or-set_other}
 use Rattle.std.proofs.lemmas.List.Sums.{sum_by-cons, count_by-le-length}
 use Rattle.std.proofs.lemmas.Bool.{eq-eqb, ne_eqb, leb-true, lt-ltb, le-ltb, le-leb, lt-leb, cond-true, cond-false, cases_eq, cases_order, not-true, and_parts, and_left, and_right, not_from_true, not_from_false, both_ways}
@@ -21,7 +21,7 @@ pub arc_small : (roads : List Road) (a : ℕ) (r : Road) → length roads ≤ ma
 arc_small roads a r few at = let l = nth_some roads a r (sym at) in omega arith
 
 -- what holds of every road holds of an arc's
-pub road_of : (P : Road → Type 0) (roads : List Road) (a : ℕ) (r : Road) → All P roads → slice_get roads a ≡ Some r → P r
+pub road_of : (P : Road → Type 0) (roads : List Road) (a : ℕ) (r : Road) → AllByRecursion P roads → slice_get roads a ≡ Some r → P r
 road_of P [] a r h at = let z : ◌≡◌ {A = ℕ} 0 1 = cc in absurd (omega arith)
 road_of P (x ∷ roads) zero r h at = let q : x ≡ r = cc in subst P q h.0
 road_of P (x ∷ roads) (suc a) r h at = road_of P roads a r h.1 at

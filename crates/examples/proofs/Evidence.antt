@@ -1,6 +1,6 @@
 -- The evidence for each consignment of the table, and the one computation that tests it.
 use Rattle.std.proofs.Common.{ℕ, true, List, [], ◌∷◌, ℤ, pos, neg_ℤ}
-use Rattle.std.specs.List.{AllByRecursion as All}
+use Rattle.std.specs.List.{AllByRecursion}
 use Rattle.worths.specs.Kinds.{Pair}
 use Rattle.plane.specs.Points.{Point}
 use Rattle.flows.specs.Certificate.{Place, Step, Certificate}
@@ -44,7 +44,7 @@ infixr 5 ◌⨾◌
 abbrev ◌⨾◌ : {A B : Type 0} → A → B → A × B
 a ⨾ b = (a, b)
 
-abbrev evidence : All (λ c. Evidence c.claim) consignments
+abbrev evidence : AllByRecursion (λ c. Evidence c.claim) consignments
 evidence =
     certified (place (pair 8 22) (chests 2 1 1 0)) cheap (step (pair 12 12) (chests 0 3 3 0) (prices 0 26 56) ∷ step (pair 22 6) (chests 0 1 1 2) (prices 0 46 64) ∷ []) quick []
     ⨾ certified (place (pair 8 22) (chests 2 1 1 0)) narrow_cheap (step (pair 22 6) (chests 0 1 1 2) (prices 0 110 158) ∷ []) narrow_quick (chests 1 1 1 1 ∷ [])

@@ -1,7 +1,7 @@
 -- One test of a claim by its evidence, and what passing it shows.
 use Rattle.std.proofs.Common.{◌≡◌, ℕ, zero, suc, Bool, true, false, ◌&&◌, ◌||◌, T, ◌⊎◌, List, [], ◌∷◌, get_or, ℤ, pos, ◌-ℤ◌, refl, ap, subst, ap₂, inl, inr, arith}
 use lib.Signed.{lt_z}
-use Rattle.std.specs.List.{AllByRecursion as All}
+use Rattle.std.specs.List.{AllByRecursion}
 use Rattle.std.proofs.lemmas.Int.{ints}
 use Rattle.network.specs.Net.{Net, Lawful}
 use Rattle.worths.specs.Kinds.{ranked, Pair}
@@ -100,7 +100,7 @@ passes n (lightest_at p q z) e = is_flow_of n z e.0 && (is_fit_by_first n p q e.
 
 -- ---- what passing shows
 
-others_by : (n : Net) (l others : List Point) (xs : List (List ℕ)) → Full (Points n) l → T (are_others n l others xs) → All (PassedOver n) others
+others_by : (n : Net) (l others : List Point) (xs : List (List ℕ)) → Full (Points n) l → T (are_others n l others xs) → AllByRecursion (PassedOver n) others
 others_by n l [] xs full t = tt
 others_by n l (z ∷ others) [] full t = absurd t
 others_by n l (z ∷ others) (x ∷ xs) full t =
@@ -144,11 +144,11 @@ holds_by n ok (lightest_at p q z) e t =
 
 -- ---- a whole table
 
-abbrev pub all_pass : (table : List Example) → All (λ c. Evidence c.claim) table → Bool
+abbrev pub all_pass : (table : List Example) → AllByRecursion (λ c. Evidence c.claim) table → Bool
 all_pass [] e = true
 all_pass (c ∷ table) e = (is_lawful c.net && passes c.net c.claim e.0) && all_pass table e.1
 
-pub all_stand : (table : List Example) (e : All (λ c. Evidence c.claim) table) → T (all_pass table e) → All Stands table
+pub all_stand : (table : List Example) (e : AllByRecursion (λ c. Evidence c.claim) table) → T (all_pass table e) → AllByRecursion Stands table
 all_stand [] e t = tt
 all_stand (c ∷ table) e t =
     let s = both (is_lawful c.net && passes c.net c.claim e.0) _ t in
@@ -162,7 +162,7 @@ Row [] k = Unit {0}
 Row (c ∷ table) zero = Stands c
 Row (c ∷ table) (suc k) = Row table k
 
-pub row : (table : List Example) → All Stands table → (k : ℕ) → Row table k
+pub row : (table : List Example) → AllByRecursion Stands table → (k : ℕ) → Row table k
 row [] a k = tt
 row (c ∷ table) a zero = a.0
 row (c ∷ table) a (suc k) = row table a.1 k

@@ -1,6 +1,6 @@
 -- What can be claimed of a consignment, and when the claim holds.
 use Rattle.std.specs.Prelude.{◌≡◌, List, [], ◌∷◌, ℤ}
-use Rattle.std.specs.List.{AllByRecursion as All}
+use Rattle.std.specs.List.{AllByRecursion}
 use Rattle.network.specs.Net.{Net, Lawful}
 use Rattle.plane.specs.Lists.{Full}
 use Rattle.plane.specs.Points.{Point, turn_p, turn_q, Corner, Lightest}
@@ -31,7 +31,7 @@ abbrev pub PassedOver : Net → Point → Type 0
 PassedOver n z = Points n z × (Corner (Points n) z → ⊥)
 
 abbrev pub Holds : Net → Claim → Type 0
-Holds n (cornered l weights others) = Full (Points n) l × (turns l ≡ weights) × All (PassedOver n) others
+Holds n (cornered l weights others) = Full (Points n) l × (turns l ≡ weights) × AllByRecursion (PassedOver n) others
 Holds n unserved = HasNoFlow n
 Holds n (lightest_at p q z) = Lightest (Points n) p q z
 

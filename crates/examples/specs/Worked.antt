@@ -1,6 +1,6 @@
 -- The table of worked consignments.
 use Rattle.std.specs.Prelude.{List, [], ◌∷◌, pos, neg_ℤ}
-use Rattle.std.specs.List.{AllByRecursion as All}
+use Rattle.std.specs.List.{AllByRecursion}
 use Rattle.network.specs.Exchanged.{exchanged}
 use Rattle.network.specs.Floored.{floored}
 use Rattle.network.specs.Net.{Net}
@@ -30,4 +30,4 @@ consignments =
     ∷ []
 
 abbrev pub ConsignmentsStand : Type 0
-ConsignmentsStand = All Stands consignments
+ConsignmentsStand = AllByRecursion Stands consignments

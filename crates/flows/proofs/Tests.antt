@@ -2,7 +2,7 @@
 use Rattle.std.proofs.Common.{◌≡◌, ℕ, zero, suc, ◌+◌, ◌<◌, Bool, true, false, not, ◌&&◌, ◌||◌, T, eqb, ltb, leb, List, [], ◌∷◌, length, ℤ, nat_abs, sym, refl, subst, arith, eqb→eq, ltb→lt, leb→le}
 use native.Mathlib.Decide.{ℕ_discrete}
 use lib.Signed.{le_z}
-use Rattle.std.specs.List.{AllByRecursion as All}
+use Rattle.std.specs.List.{AllByRecursion}
 use Rattle.std.proofs.lemmas.Int.{ints}
 use Rattle.network.specs.Arcs.{road_at, stock_at}
 use Rattle.network.specs.Limits.{max_nodes, max_arcs, max_node, max_reach}
@@ -71,7 +71,7 @@ is_true : (b : Bool) → T b → b ≡ true
 is_true true t = refl
 is_true false t = absurd t
 
-all_by : (Q : Road → Type 0) (roads : List Road) → ((a : ℕ) → a < length roads → Q (road_at roads a)) → All Q roads
+all_by : (Q : Road → Type 0) (roads : List Road) → ((a : ℕ) → a < length roads → Q (road_at roads a)) → AllByRecursion Q roads
 all_by Q [] h = tt
 all_by Q (r ∷ rs) h = (h 0 (omega arith), all_by Q rs (λ a k. h (suc a) (omega arith)))
 

@@ -1,6 +1,6 @@
 -- Caps keep the laws, and what a change of one cap does to the roads.
 use Rattle.std.proofs.Common.{◌≡◌, ℕ, zero, suc, ◌+◌, ◌*◌, ◌≤◌, Bool, true, false, cond, ◌||◌, eqb, leb, List, [], ◌∷◌, length, set, ℤ, nat_abs, Some, None, sum_by, Option, sym, refl, ap, ◌∙◌, subst, add-zero, mul-le-mul, zero-add, arith}
-use Rattle.std.specs.List.{slice_get, AllByRecursion as All}
+use Rattle.std.specs.List.{slice_get, AllByRecursion}
 use Rattle.std.specs.Option.{option_map}
 use Rattle.std.proofs.lemmas.List.Sums.{sum_by-cons}
 use Rattle.std.proofs.lemmas.Bool.{leb-true, and_parts, cond_both}
@@ -38,7 +38,7 @@ bounded_span cost keeps o r =
     bounded_both (λ x. span cost x ≤ span cost r) o r (λ u _ high. subst (λ z. u * nat_abs z ≤ r.most * nat_abs (cost r)) (sym (keeps r u)) (mul-le-mul high same)) (omega arith)
 
 -- for every cap on every arc
-each_bounded : (P : Road → Type 0) → ((o : Option ℕ) (r : Road) → P r → P (bounded o r)) → (f : ℕ → Option ℕ) (i : ℕ) (rs : List Road) → All P rs → All P (bounded_from f i rs)
+each_bounded : (P : Road → Type 0) → ((o : Option ℕ) (r : Road) → P r → P (bounded o r)) → (f : ℕ → Option ℕ) (i : ℕ) (rs : List Road) → AllByRecursion P rs → AllByRecursion P (bounded_from f i rs)
 each_bounded P keeps f i [] h = tt
 each_bounded P keeps f i (r ∷ rs) h = (keeps (f i) r h.0, each_bounded P keeps f (suc i) rs h.1)
 

@@ -4,7 +4,7 @@ use lib.ListN.{length-map}
 use Rattle.std.proofs.ByRecursion.{All-map, All-weaker}
 use Rattle.std.proofs.lemmas.List.Sums.{sum_by-cons}
 use Rattle.std.proofs.lemmas.Bool.Decides.{nat_tests}
-use Rattle.std.specs.List.{AllByRecursion as All}
+use Rattle.std.specs.List.{AllByRecursion}
 use Rattle.network.specs.Floored.{lowered, leaving, arriving, stock_left, stocks_left, least_cost, floored}
 use Rattle.network.specs.Net.{Net, Lawful, node_count, touch, touching, span, reach_of}
 use Rattle.network.specs.Roads.{Ranged, Passable}
@@ -50,7 +50,7 @@ share_one : (v : ℕ) (r : Road) → Passable r → cond (eqb r.tail v) r.least 
 share_one v r p = let room = p.room in let apart = p.apart in grind (arith, nat_tests)
 
 -- an arc that touches the node leaves it or arrives there, and not both
-pub share : (v : ℕ) (rs : List Road) → All Passable rs → leaving v rs + arriving v rs + touching v (map lowered rs) ≤ touching v rs
+pub share : (v : ℕ) (rs : List Road) → AllByRecursion Passable rs → leaving v rs + arriving v rs + touching v (map lowered rs) ≤ touching v rs
 share v [] p = omega arith
 share v (r ∷ rs) p =
     omega (
@@ -69,7 +69,7 @@ parted : (least most far : ℕ) → least ≤ most → least * far + (most - lea
 parted least most far h = let e : least + (most - least) ≡ most = omega arith in sym (add-mul least (most - least) far) ∙ ap (λ m. m * far) e
 
 -- what the leasts cost is as far from zero as the reach that they take away, or less
-pub cost_share : (cost : Road → ℤ) → ((r : Road) → cost (lowered r) ≡ cost r) → (rs : List Road) → All Passable rs → nat_abs (least_cost cost rs) + reach_of cost (map lowered rs) ≤ reach_of cost rs
+pub cost_share : (cost : Road → ℤ) → ((r : Road) → cost (lowered r) ≡ cost r) → (rs : List Road) → AllByRecursion Passable rs → nat_abs (least_cost cost rs) + reach_of cost (map lowered rs) ≤ reach_of cost rs
 cost_share cost same [] p = omega arith
 cost_share cost same (r ∷ rs) p =
     let e : span cost (lowered r) ≡ (r.most - r.least) * nat_abs (cost r) = ap (λ z. (r.most - r.least) * nat_abs z) (same r)

@@ -1,6 +1,6 @@
 -- A grid within its limits keeps the laws of a network.
 use Rattle.std.proofs.Common.{◌≡◌, ℕ, zero, suc, ◌+◌, ◌-◌, ◌*◌, ◌/◌, ◌%◌, ◌<◌, ◌≤◌, ◌||◌, eqb, ltb, List, map, length, get_or, ℤ, pos, negsuc, nat_abs, sym, subst, add-mul, mul-zero, zero-add, arith}
-use Rattle.std.specs.List.{range_with_len, AllByRecursion as All}
+use Rattle.std.specs.List.{range_with_len, AllByRecursion}
 use Rattle.std.proofs.lemmas.Nat.{div_below, mod_below, mul-add-lt, mul-le}
 use Rattle.std.proofs.lemmas.List.FromFn.{length-map-range_with_len, get_or-map-range_with_len}
 use Rattle.std.proofs.ByRecursion.{All-from_get_or, All-weaker, sum_by_le}
@@ -83,7 +83,7 @@ grid_arc_lem rows columns i h =
     (λ e. let past : rights ≤ i = ltb-false i rights e in down_road_lem rows columns (i - rights) (omega arith))
 
 -- what holds at each number holds of the list
-counted : {X : Type 0} (f : ℕ → X) (P : X → Type 0) (n : ℕ) → ((i : ℕ) → i < n → P (f i)) → All P (map f (range_with_len 0 n))
+counted : {X : Type 0} (f : ℕ → X) (P : X → Type 0) (n : ℕ) → ((i : ℕ) → i < n → P (f i)) → AllByRecursion P (map f (range_with_len 0 n))
 counted f P n holds =
     All-from_get_or P (map f (range_with_len 0 n)) (f 0)
     (λ i h.
@@ -99,14 +99,14 @@ touch_le : (nodes v : ℕ) (r : Road) → Good nodes r → touch v r ≤ max_mos
 touch_le nodes v r good =
     cond_both (eqb r.tail v || eqb r.head v) r.most 0 (λ n. n ≤ max_most) (λ _. good.ranged.most) (λ _. omega arith)
 
-touching_le : (nodes v : ℕ) (roads : List Road) → All (Good nodes) roads → touching v roads ≤ length roads * max_most
+touching_le : (nodes v : ℕ) (roads : List Road) → AllByRecursion (Good nodes) roads → touching v roads ≤ length roads * max_most
 touching_le nodes v roads good =
     sum_by_le (touch v) max_most roads (All-weaker (Good nodes) (λ r. touch v r ≤ max_most) (touch_le nodes v) roads good)
 
 span_le : (cost : Road → ℤ) (r : Road) → r.most ≤ max_most → Near max_cost (cost r) → span cost r ≤ max_most * max_cost
 span_le cost r most near = mul-le r.most (nat_abs (cost r)) max_most max_cost most (abs_near max_cost (cost r) near)
 
-reach_le : (nodes : ℕ) (cost : Road → ℤ) → ((r : Road) → Good nodes r → Near max_cost (cost r)) → (roads : List Road) → All (Good nodes) roads → reach_of cost roads ≤ length roads * (max_most * max_cost)
+reach_le : (nodes : ℕ) (cost : Road → ℤ) → ((r : Road) → Good nodes r → Near max_cost (cost r)) → (roads : List Road) → AllByRecursion (Good nodes) roads → reach_of cost roads ≤ length roads * (max_most * max_cost)
 reach_le nodes cost near roads good =
     sum_by_le (span cost) (max_most * max_cost) roads
     (All-weaker (Good nodes) (λ r. span cost r ≤ max_most * max_cost) (λ r g. span_le cost r g.ranged.most (near r g)) roads good)
@@ -135,12 +135,12 @@ gridded_lawful rows columns chests tall wide few =
     let all_nodes : length net.stocks ≡ nodes = length-map-range_with_len (grid_stock nodes chests) 0 nodes in
     let all_arcs : length roads ≡ grid_arcs rows columns = length-map-range_with_len (grid_arc rows columns) 0 (grid_arcs rows columns) in
     let short : length roads ≤ 364 = omega (arith, arcs_le rows columns tall.1 wide.1) in
-    let good : All (Good nodes) roads = counted (grid_arc rows columns) (Good nodes) (grid_arcs rows columns) (grid_arc_lem rows columns) in
+    let good : AllByRecursion (Good nodes) roads = counted (grid_arc rows columns) (Good nodes) (grid_arcs rows columns) (grid_arc_lem rows columns) in
     record {
       some = omega (arith, mul-le 1 1 rows columns tall.0 wide.0);
       nodes = omega (arith, mul-le rows columns 14 14 tall.1 wide.1);
       arcs = omega arith;
-      ranged = subst (λ n. All (Ranged n) roads) (sym all_nodes) (All-weaker (Good nodes) (Ranged nodes) (λ r g. g.ranged) roads good);
+      ranged = subst (λ n. AllByRecursion (Ranged n) roads) (sym all_nodes) (All-weaker (Good nodes) (Ranged nodes) (λ r g. g.ranged) roads good);
       passable = All-weaker (Good nodes) Passable (λ r g. g.passable) roads good;
       node = λ v h. omega (arith, stock_le nodes chests v (omega arith), touching_le nodes v roads good);
       first = omega (arith, reach_le nodes (λ r. r.first) (λ r g. g.ranged.first) roads good);

@@ -1,6 +1,6 @@
 -- Rows whose numbers are within their limits make a lawful network.
 use Rattle.std.proofs.Common.{ℕ, suc, ◌*◌, ◌<◌, ◌≤◌, Bool, true, false, cond, ◌||◌, eqb, List, length, get_or, ℤ, pos, negsuc, neg_ℤ, nat_abs, ◌≤ℤ◌, mul-le-mul, arith}
-use Rattle.std.specs.List.{AllByRecursion as All}
+use Rattle.std.specs.List.{AllByRecursion}
 use Rattle.std.proofs.ByRecursion.{All-weaker, All-get_or, sum_by_le}
 use Rattle.std.proofs.lemmas.Int.{ints}
 use Rattle.network.specs.Limits.{max_nodes, max_arcs, max_stock, max_most, max_cost}
@@ -23,17 +23,17 @@ at_most true u k h = h
 at_most false u k h = omega arith
 
 -- at most as much at a node as all mosts together
-pub touching_le : (v n : ℕ) (roads : List Road) → All (Ranged n) roads → touching v roads ≤ length roads * max_most
+pub touching_le : (v n : ℕ) (roads : List Road) → AllByRecursion (Ranged n) roads → touching v roads ≤ length roads * max_most
 touching_le v n roads h =
     sum_by_le (touch v) max_most roads (All-weaker (Ranged n) (λ r. touch v r ≤ max_most) (λ r g. at_most (eqb r.tail v || eqb r.head v) r.most max_most g.most) roads h)
 
-pub reach_le : (cost : Road → ℤ) (n : ℕ) (roads : List Road) → ((r : Road) → Ranged n r → Near max_cost (cost r)) → All (Ranged n) roads → reach_of cost roads ≤ length roads * (max_most * max_cost)
+pub reach_le : (cost : Road → ℤ) (n : ℕ) (roads : List Road) → ((r : Road) → Ranged n r → Near max_cost (cost r)) → AllByRecursion (Ranged n) roads → reach_of cost roads ≤ length roads * (max_most * max_cost)
 reach_le cost n roads near h =
     sum_by_le (span cost) (max_most * max_cost) roads
     (All-weaker (Ranged n) (λ r. span cost r ≤ max_most * max_cost) (λ r g. mul-le-mul g.most (near_distance max_cost (cost r) (near r g))) roads h)
 
-pub rows_lawful : (roads : List Road) (stocks : List ℤ) → 0 < length stocks → length stocks ≤ max_nodes → length roads ≤ max_arcs → All (Near max_stock) stocks
-    → All (Ranged (length stocks)) roads → All Passable roads → Lawful (rows_net roads stocks)
+pub rows_lawful : (roads : List Road) (stocks : List ℤ) → 0 < length stocks → length stocks ≤ max_nodes → length roads ≤ max_arcs → AllByRecursion (Near max_stock) stocks
+    → AllByRecursion (Ranged (length stocks)) roads → AllByRecursion Passable roads → Lawful (rows_net roads stocks)
 rows_lawful roads stocks some few arcs near ranged passable = record {
   some = some;
   nodes = few;

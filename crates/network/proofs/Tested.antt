@@ -1,7 +1,7 @@
 -- Rows pass the test exactly where their numbers are within their limits, and then make a lawful network.
 use Rattle.std.proofs.Common.{◌≡◌, ℕ, suc, ◌<◌, ◌≤◌, Bool, true, false, cond, not, ◌&&◌, eqb, ltb, leb, List, [], ◌∷◌, length, ℤ, pos, neg_ℤ, ◌≤ℤ◌, Some, None, Option, refl, ap, ◌∙◌, arith}
 use lib.Signed.{le_z}
-use Rattle.std.specs.List.{AllByRecursion as All}
+use Rattle.std.specs.List.{AllByRecursion}
 use Rattle.std.proofs.lemmas.Int.{ints}
 use Rattle.std.proofs.lemmas.Bool.{and_parts, and_from, ltb-true, lt-ltb, leb-true, le-leb, eqb-false, ne_eqb, not-true, cond-true, true≢false}
 use Rattle.network.specs.Limits.{max_nodes, max_arcs, max_stock, max_most, max_cost}
@@ -68,15 +68,15 @@ both_none : (a b : Option Refusal) → or_else a b ≡ None → (a ≡ None) × 
 both_none None b h = (refl, h)
 both_none (Some e) b h = absurd (none_not_some e h)
 
-from_stocks : (i : ℕ) (bs : List ℤ) → stock_fault i bs ≡ None → All (Near max_stock) bs
+from_stocks : (i : ℕ) (bs : List ℤ) → stock_fault i bs ≡ None → AllByRecursion (Near max_stock) bs
 from_stocks i [] h = tt
 from_stocks i (b ∷ bs) h = let p = passes (is_near max_stock b) _ (Number i) h in (from_near max_stock b p.0, from_stocks (suc i) bs p.1)
 
-to_stocks : (i : ℕ) (bs : List ℤ) → All (Near max_stock) bs → stock_fault i bs ≡ None
+to_stocks : (i : ℕ) (bs : List ℤ) → AllByRecursion (Near max_stock) bs → stock_fault i bs ≡ None
 to_stocks i [] h = refl
 to_stocks i (b ∷ bs) h = cond-true (is_near max_stock b) _ _ (to_near max_stock b h.0) ∙ to_stocks (suc i) bs h.1
 
-from_roads : (n i : ℕ) (rs : List Road) → road_fault n i rs ≡ None → All (Ranged n) rs × All Passable rs
+from_roads : (n i : ℕ) (rs : List Road) → road_fault n i rs ≡ None → AllByRecursion (Ranged n) rs × AllByRecursion Passable rs
 from_roads n i [] h = (tt, tt)
 from_roads n i (r ∷ rs) h =
     let p = passes (is_ranged n r) _ (Number i) h in
@@ -84,7 +84,7 @@ from_roads n i (r ∷ rs) h =
     let t = from_roads n (suc i) rs q.1 in
     ((from_ranged n r p.0, t.0), (from_passable r q.0, t.1))
 
-to_roads : (n i : ℕ) (rs : List Road) → All (Ranged n) rs → All Passable rs → road_fault n i rs ≡ None
+to_roads : (n i : ℕ) (rs : List Road) → AllByRecursion (Ranged n) rs → AllByRecursion Passable rs → road_fault n i rs ≡ None
 to_roads n i [] h k = refl
 to_roads n i (r ∷ rs) h k = cond-true (is_ranged n r) _ _ (to_ranged n r h.0) ∙ cond-true (is_passable r) _ _ (to_passable r k.0) ∙ to_roads n (suc i) rs h.1 k.1
 
@@ -99,8 +99,8 @@ passed_lawful roads stocks h =
     rows_lawful roads stocks (ltb-true 0 (length stocks) s.0) (leb-true (length stocks) max_nodes t.0) (leb-true (length roads) max_arcs t.1) (from_stocks 0 stocks o.0) r.0 r.1
 
 -- rows within the limits pass
-pub rows_pass : (roads : List Road) (stocks : List ℤ) → 0 < length stocks → length stocks ≤ max_nodes → length roads ≤ max_arcs → All (Near max_stock) stocks
-    → All (Ranged (length stocks)) roads → All Passable roads → row_fault roads stocks ≡ None
+pub rows_pass : (roads : List Road) (stocks : List ℤ) → 0 < length stocks → length stocks ≤ max_nodes → length roads ≤ max_arcs → AllByRecursion (Near max_stock) stocks
+    → AllByRecursion (Ranged (length stocks)) roads → AllByRecursion Passable roads → row_fault roads stocks ≡ None
 rows_pass roads stocks some few arcs near ranged passable =
     cond-true (is_sized roads stocks) _ _ (and_from (ltb 0 (length stocks)) _ (lt-ltb 0 (length stocks) some) (and_from (leb (length stocks) max_nodes) (leb (length roads) max_arcs) (le-leb (length stocks) max_nodes few) (le-leb (length roads) max_arcs arcs)))
     ∙ ap (λ o. or_else o (road_fault (length stocks) 0 roads)) (to_stocks 0 stocks near) ∙ to_roads (length stocks) 0 roads ranged passable

@@ -1,6 +1,6 @@
 -- What a network means, and the laws that every network keeps.
 use Rattle.std.specs.Prelude.{ℕ, ◌+◌, ◌*◌, ◌<◌, ◌≤◌, cond, ◌||◌, List, [], ◌∷◌, length, ℤ, pos, sum_by, ◌==◌, slice_index_or, unsigned_abs}
-use Rattle.std.specs.List.{AllByRecursion as All}
+use Rattle.std.specs.List.{AllByRecursion}
 use Rattle.network.specs.Limits.{max_nodes, max_arcs, max_node, max_reach}
 use Rattle.network.specs.Roads.{Ranged, Passable}
 use Rattle.network.specs.declared.road.Road.{Road}
@@ -41,8 +41,8 @@ pub record Lawful (n : Net) : Type 0 where
   pub some : 0 < node_count n
   pub nodes : node_count n ≤ max_nodes
   pub arcs : arc_count n ≤ max_arcs
-  pub ranged : All (Ranged (node_count n)) n.roads
-  pub passable : All Passable n.roads
+  pub ranged : AllByRecursion (Ranged (node_count n)) n.roads
+  pub passable : AllByRecursion Passable n.roads
   pub node : (v : ℕ) → v < node_count n → unsigned_abs (slice_index_or n.stocks v (pos 0)) + touching v n.roads ≤ max_node
   pub first : unsigned_abs n.fixed.0 + reach_of (λ r. r.first) n.roads ≤ max_reach
   pub second : unsigned_abs n.fixed.1 + reach_of (λ r. r.second) n.roads ≤ max_reach

@@ -1,17 +1,17 @@
 -- Lists of points: who is in them, how they rise, begin and end, and what becomes of that when they are turned round.
 use Rattle.std.proofs.Common.{◌≡◌, ◌⊎◌, List, [], ◌∷◌, ◌++◌, map, ◌≤ℤ◌, ◌<ℤ◌, sym, refl, ap, subst, inl, inr, arith}
 use mathlib.Core.List.{reverse_aux}
-use Rattle.std.specs.List.{AllByRecursion as All}
+use Rattle.std.specs.List.{AllByRecursion}
 use Rattle.numbers.proofs.Products.{lin}
 use Rattle.plane.specs.Points.{Point, first, swap}
 use Rattle.plane.specs.Lists.{In, Rises, Front, Heads, Ends}
 
-pub all_in : (Q : Point → Type 0) (l : List Point) → All Q l → (z : Point) → In z l → Q z
+pub all_in : (Q : Point → Type 0) (l : List Point) → AllByRecursion Q l → (z : Point) → In z l → Q z
 all_in Q [] h z i = absurd i
 all_in Q (x ∷ l) h z (inl e) = subst Q (sym e) h.0
 all_in Q (x ∷ l) h z (inr i) = all_in Q l h.1 z i
 
-pub in_all : (Q : Point → Type 0) (l : List Point) → ((z : Point) → In z l → Q z) → All Q l
+pub in_all : (Q : Point → Type 0) (l : List Point) → ((z : Point) → In z l → Q z) → AllByRecursion Q l
 in_all Q [] h = tt
 in_all Q (x ∷ l) h = (h x (inl refl), in_all Q l (λ z i. h z (inr i)))
 
@@ -104,9 +104,9 @@ snoc_rises (x ∷ l) c r h = (in_all _ (l ++ (c ∷ [])) (λ z i. go z (snoc_out
 
 abbrev pub Falls : List Point → Type 0
 Falls [] = Unit {0}
-Falls (x ∷ l) = All (λ y. y.0 <ℤ x.0) l × Falls l
+Falls (x ∷ l) = AllByRecursion (λ y. y.0 <ℤ x.0) l × Falls l
 
-pub turned_rises : (l r : List Point) → Falls l → Rises r → All (λ x. All (λ y. x.0 <ℤ y.0) r) l → Rises (reverse_aux l r)
+pub turned_rises : (l r : List Point) → Falls l → Rises r → AllByRecursion (λ x. AllByRecursion (λ y. x.0 <ℤ y.0) r) l → Rises (reverse_aux l r)
 turned_rises [] r f s h = s
 turned_rises (x ∷ l) r f s h =
     turned_rises l (x ∷ r) f.1 (h.0, s) (in_all _ l (λ z i. (all_in (λ y. y.0 <ℤ x.0) l f.0 z i, all_in _ l h.1 z i)))

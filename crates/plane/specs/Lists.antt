@@ -1,6 +1,6 @@
 -- The full list of corners, its fronts, and chains of turns that show a list to be full.
 use Rattle.std.specs.Prelude.{◌≡◌, ◌⊎◌, List, [], ◌∷◌, ◌++◌, ℤ, pos, ◌*ℤ◌, ◌≤ℤ◌, ◌<ℤ◌}
-use Rattle.std.specs.List.{AllByRecursion as All}
+use Rattle.std.specs.List.{AllByRecursion}
 use Rattle.plane.specs.Points.{Point, first, second, weigh, turn_p, turn_q, Corner, Least}
 
 abbrev pub In : Point → List Point → Type 0
@@ -10,7 +10,7 @@ In z (x ∷ l) = (z ≡ x) ⊎ In z l
 -- by strictly rising first cost
 abbrev pub Rises : List Point → Type 0
 Rises [] = Unit {0}
-Rises (x ∷ l) = All (λ y. x.0 <ℤ y.0) l × Rises l
+Rises (x ∷ l) = AllByRecursion (λ y. x.0 <ℤ y.0) l × Rises l
 
 -- exactly the corners, by rising first cost
 pub record Full (P : Point → Type 0) (l : List Point) : Type 0 where

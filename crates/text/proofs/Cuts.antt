@@ -1,7 +1,7 @@
 -- A text is cut into its lines in one way.
 use Rattle.std.proofs.Common.{◌≡◌, ℕ, suc, ◌+◌, ◌-◌, ◌^◌, ◌<◌, ◌≤◌, Bool, true, false, not, ◌&&◌, eqb, List, [], ◌∷◌, ◌++◌, length, get_or, drop, ℤ, pos, negsuc, neg_ℤ, ◌≤ℤ◌, codes, decimal, sym, refl, ap, ◌∙◌, append_assoc, arith}
 use Rattle.std.specs.Fmt.{signed_decimal}
-use Rattle.std.specs.List.{AllByRecursion as All}
+use Rattle.std.specs.List.{AllByRecursion}
 use Rattle.std.proofs.ByRecursion.{All-append, All-from_get_or}
 use Rattle.std.proofs.lemmas.List.{take-append-drop, drop-drop, drop_more, get_or-drop, get_or-take, length-append, get_or_at, length-drop}
 use Rattle.std.proofs.lemmas.Bool.{and_parts, eqb-false, not-true}
@@ -17,7 +17,7 @@ use Rattle.text.specs.Consignment.{net_form, stock_form, arc_form, paired, ended
 
 -- bytes of one line
 pub record Unbroken (bs : List ℕ) : Type 0 where
-  pub each : All (λ b. b ≡ 10 → ⊥) bs
+  pub each : AllByRecursion (λ b. b ≡ 10 → ⊥) bs
 
 joins : {a b : List ℕ} → Unbroken a → Unbroken b → Unbroken (a ++ b)
 joins {a} {b} h k = record { each = All-append (λ x. x ≡ 10 → ⊥) a b h.each k.each }

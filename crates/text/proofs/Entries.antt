@@ -1,6 +1,6 @@
 -- One entry more: whom entries name, and what stocks they give.
 use Rattle.std.proofs.Common.{◌≡◌, ℕ, ◌<◌, Bool, true, false, cond, ◌||◌, eqb, List, [], ◌∷◌, ◌++◌, length, get_or, set, ℤ, pos, sym, refl, ap, ◌∙◌, ⊎_elim, arith}
-use Rattle.std.specs.List.{AllByRecursion as All}
+use Rattle.std.specs.List.{AllByRecursion}
 use Rattle.std.proofs.lemmas.List.{get_or-set_same, get_or-set_other}
 use Rattle.std.proofs.lemmas.Int.{ints}
 use Rattle.std.proofs.lemmas.Bool.{eq-eqb, ne_eqb, cond-true, cond-false, cases_eq, or_parts, or_from, true≢false}
@@ -74,6 +74,6 @@ near_cond : (b : Bool) (x y : ℤ) → Near max_stock x → Near max_stock y →
 near_cond true x y h k = h
 near_cond false x y h k = k
 
-pub stock_near : (n : ℕ) (es : List (ℕ × ℤ)) (i : ℕ) → All (Stocked n) es → Near max_stock (stock_of es i)
+pub stock_near : (n : ℕ) (es : List (ℕ × ℤ)) (i : ℕ) → AllByRecursion (Stocked n) es → Near max_stock (stock_of es i)
 stock_near n [] i h = near_zero
 stock_near n (e ∷ es) i h = near_cond (eqb e.0 i) e.1 (stock_of es i) h.0.amount (stock_near n es i h.1)

@@ -1,6 +1,6 @@
 -- What a line comes to, computed: so that it has one fault at most, and none where it may be read.
 use Rattle.std.proofs.Common.{◌≡◌, ℕ, ◌+◌, ◌-◌, ◌<◌, ◌≤◌, Bool, true, false, cond, not, ◌&&◌, eqb, ltb, leb, List, [], ◌∷◌, ◌++◌, length, get_or, drop, ℤ, pos, nat_abs, ◌≤ℤ◌, Ok, Err, Result, sym, refl, ap, ◌∙◌, ⊎_elim, one-add, arith}
-use Rattle.std.specs.List.{common_prefix_len, AllByRecursion as All}
+use Rattle.std.specs.List.{common_prefix_len, AllByRecursion}
 use Rattle.std.proofs.lemmas.Int.{ints}
 use Rattle.std.proofs.lemmas.Bool.{eq-eqb, ne_eqb, eqb-true, cond-true, cond-false, cases_Bool, cases_eq, cases_lt, and_left, and_right, and_from, lt-ltb, le-leb, lt-leb}
 use Rattle.network.specs.Limits.{max_nodes, max_most}
@@ -84,7 +84,7 @@ judge_arc : (n m : ℕ) (es : List (ℕ × ℤ)) (a : ℕ) (rest : List ℕ) (pl
     → judge n m es a (spelt Arc ++ rest) place ≡ arc_way place (scan (arc_items n) rest (place + length (spelt Arc)))
 judge_arc n m es a rest place l = cond-false (eqb a 0 && false) _ _ (and_right (eqb a 0) false refl) ∙ cond-true (ltb a m && true) _ _ (and_from (ltb a m) true (lt-ltb a m l) refl)
 
-closed : (form : List ℕ) (s t : Bool) → All (λ w. BeginsNot w form) (cond s (Stock ∷ []) [] ++ cond t (Arc ∷ []) [])
+closed : (form : List ℕ) (s t : Bool) → AllByRecursion (λ w. BeginsNot w form) (cond s (Stock ∷ []) [] ++ cond t (Arc ∷ []) [])
     → ((s && begins Stock form) ≡ false) × ((t && begins Arc form) ≡ false)
 closed form true true h = (begins_no Stock form h.0, begins_no Arc form h.1.0)
 closed form true false h = (begins_no Stock form h.0, refl)

@@ -1,6 +1,6 @@
 -- One line more.
 use Rattle.std.proofs.Common.{◌≡◌, ℕ, ◌+◌, ◌-◌, ◌<◌, Bool, true, false, cond, eqb, ltb, List, [], ◌∷◌, ◌++◌, length, get_or, take, ℤ, pos, Ok, Err, Result, sym, refl, ap, ◌∙◌, subst, inl, inr, arith}
-use Rattle.std.specs.List.{AllByRecursion as All}
+use Rattle.std.specs.List.{AllByRecursion}
 use Rattle.std.proofs.lemmas.List.{take_more_set, length-append}
 use Rattle.std.proofs.lemmas.Bool.{eqb-true, ltb-true}
 use Rattle.network.specs.Limits.{max_nodes}
@@ -91,7 +91,7 @@ other_word v w form rest more e f = sym (second v rest) ∙ ap (λ l. get_or l 1
 abbrev pub BeginsNot : Word → List ℕ → Type 0
 BeginsNot w form = (rest : List ℕ) → form ≡ spelt w ++ rest → ⊥
 
-all_open : (P : Word → Type 0) (s a : Bool) → (s ≡ true → P Stock) → (a ≡ true → P Arc) → All P (cond s (Stock ∷ []) [] ++ cond a (Arc ∷ []) [])
+all_open : (P : Word → Type 0) (s a : Bool) → (s ≡ true → P Stock) → (a ≡ true → P Arc) → AllByRecursion P (cond s (Stock ∷ []) [] ++ cond a (Arc ∷ []) [])
 all_open P true true p q = (p refl, (q refl, tt))
 all_open P true false p q = (p refl, tt)
 all_open P false true p q = (q refl, tt)

@@ -1,6 +1,6 @@
 -- Two readings of one text agree as far as both go.
 use Rattle.std.proofs.Common.{◌≡◌, ℕ, suc, ◌+◌, ◌<◌, ◌≤◌, false, eqb, List, [], ◌∷◌, ◌++◌, length, get_or, drop, ℤ, pos, nat_abs, Ok, Result, sym, refl, ap, ◌∙◌, subst, append_assoc, append-nil, add-zero, zero-add, arith}
-use Rattle.std.specs.List.{flat_map, AllByRecursion as All}
+use Rattle.std.specs.List.{flat_map, AllByRecursion}
 use Rattle.std.proofs.lemmas.List.{append_cancel_left, take-append-drop, length-take-le}
 use Rattle.std.proofs.lemmas.Bool.{or_parts, or_from}
 use Rattle.network.specs.Limits.{max_nodes}
@@ -124,7 +124,7 @@ one_more k l ks ls x y e (before j more p q) = before j more (ap (λ z. z ∷ ls
 one_more k l ks ls x y e (equal p q) = equal (ap (λ z. z ∷ ks) e ∙ ap (λ z. l ∷ z) p) q
 one_more k l ks ls x y e (after j more p q) = after j more (ap (λ z. z ∷ ks) e ∙ ap (λ z. l ∷ z) p) q
 
-meet : (n : ℕ) (ks ls : List Entry) (x y : List ℕ) → n ≤ max_nodes → All (Good n) ks → All (Good n) ls → body ks ++ x ≡ body ls ++ y → Meet ks ls x y
+meet : (n : ℕ) (ks ls : List Entry) (x y : List ℕ) → n ≤ max_nodes → AllByRecursion (Good n) ks → AllByRecursion (Good n) ls → body ks ++ x ≡ body ls ++ y → Meet ks ls x y
 meet n [] [] x y few h g e = equal refl e
 meet n [] (l ∷ ls) x y few h g e = before l ls refl (e ∙ append_assoc (ended (form_of l)) (body ls) y)
 meet n (k ∷ ks) [] x y few h g e = after k ks refl (sym e ∙ append_assoc (ended (form_of k)) (body ks) x)
@@ -156,7 +156,7 @@ runs_next : (n m : ℕ) (es : List (ℕ × ℤ)) (a : ℕ) (k : Entry) (ks : Lis
 runs_next n m es a (stock s) ks h = h.0
 runs_next n m es a (arc r) ks h = h.0
 
-runs_arcs : (n m : ℕ) (es : List (ℕ × ℤ)) (a : ℕ) (rs : List Road) → All (Ranged n) rs → All Passable rs → a + length rs ≤ m → Runs n m es a (arcs_listed rs)
+runs_arcs : (n m : ℕ) (es : List (ℕ × ℤ)) (a : ℕ) (rs : List Road) → AllByRecursion (Ranged n) rs → AllByRecursion Passable rs → a + length rs ≤ m → Runs n m es a (arcs_listed rs)
 runs_arcs n m es a [] h k l = tt
 runs_arcs n m es a (r ∷ rs) h k l = ((omega arith, h.0, k.0), runs_arcs n m es (a + 1) rs h.1 k.1 (omega arith))
 
@@ -168,7 +168,7 @@ once_front (e ∷ es) s ts h = or_from (eqb e.0 s.0) (named es s.0) (apart s.0 e
     named_not [] s ts i h = (or_parts (eqb s.0 i) (named ts i) h).0
     named_not (e ∷ es) s ts i h = named_not es s ts i (or_parts (eqb e.0 i) (named (es ++ (s ∷ ts)) i) h).1
 
-runs_listed : (n m : ℕ) (es ts : List (ℕ × ℤ)) (rs : List Road) → All (Stocked n) ts → Once (es ++ ts) → All (Ranged n) rs → All Passable rs → length rs ≤ m → Runs n m es 0 (listed ts rs)
+runs_listed : (n m : ℕ) (es ts : List (ℕ × ℤ)) (rs : List Road) → AllByRecursion (Stocked n) ts → Once (es ++ ts) → AllByRecursion (Ranged n) rs → AllByRecursion Passable rs → length rs ≤ m → Runs n m es 0 (listed ts rs)
 runs_listed n m es [] rs st on h k l = runs_arcs n m es 0 rs h k (omega arith)
 runs_listed n m es (s ∷ ts) rs st on h k l =
     ((refl, st.0, once_front es s ts on), runs_listed n m (es ++ (s ∷ [])) ts rs st.1 (subst Once (sym (append_assoc es (s ∷ []) ts)) on) h k l)
@@ -190,11 +190,11 @@ pub data Meeting (text : List ℕ) (n m : ℕ) (es : List (ℕ × ℤ)) (rs : Li
   equal : es ≡ fs → rs ≡ ss → p ≡ q → Meeting text n m es rs p fs ss q
   after : (k : Entry) (x : List ℕ) → Next n m fs (length ss) k → drop q text ≡ ended (form_of k) ++ x → Meeting text n m es rs p fs ss q
 
-all_arcs : (n : ℕ) (rs : List Road) → All (Ranged n) rs → All (Good n) (arcs_listed rs)
+all_arcs : (n : ℕ) (rs : List Road) → AllByRecursion (Ranged n) rs → AllByRecursion (Good n) (arcs_listed rs)
 all_arcs n [] h = tt
 all_arcs n (r ∷ rs) h = (h.0, all_arcs n rs h.1)
 
-all_good : (n : ℕ) (es : List (ℕ × ℤ)) (rs : List Road) → All (Stocked n) es → All (Ranged n) rs → All (Good n) (listed es rs)
+all_good : (n : ℕ) (es : List (ℕ × ℤ)) (rs : List Road) → AllByRecursion (Stocked n) es → AllByRecursion (Ranged n) rs → AllByRecursion (Good n) (listed es rs)
 all_good n [] rs h k = all_arcs n rs k
 all_good n (s ∷ es) rs h k = (h.0, all_good n es rs h.1 k)
 

@@ -14,7 +14,7 @@ use Rattle.text.specs.Refused.{Refused, no_end, bad_line}
 use Rattle.text.specs.Drafts as drafts
 use Rattle.text.specs.Drafts.{Holds, SameSizes, Completed, Stopped}
 use Rattle.text.specs.Reader.{Taken, Answered}
-use Rattle.std.specs.List.{AllByRecursion as All}
+use Rattle.std.specs.List.{AllByRecursion}
 use Rattle.std.proofs.ByRecursion.{All-from_get_or}
 use Rattle.text.proofs.Entries.{stock_near}
 use Rattle.text.proofs.Settled.{settled}
@@ -56,7 +56,7 @@ rows_tested text n m stocks roads c =
     let em = c.arcs in
     rows_pass roads stocks (omega arith) (omega arith) (omega arith)
     (All-from_get_or (Near max_stock) stocks (pos 0) (λ i h. subst (Near max_stock) (sym (c.stock i (omega arith))) (stock_near n c.entries i c.fitting.stocked)))
-    (subst (λ k. All (Ranged k) roads) (sym c.nodes) c.fitting.ranged) c.fitting.passable
+    (subst (λ k. AllByRecursion (Ranged k) roads) (sym c.nodes) c.fitting.ranged) c.fitting.passable
 
 pub taken : (text : List ℕ) (d₀ d : Draft) (n m : ℕ) (road_row road_row' : List Road) (stock_row stock_row' : List ℤ) → length text ≤ max_text → m ≤ length road_row → n ≤ length stock_row
     → d₀.nodes ≡ n → d₀.arcs ≡ m → SameSizes d₀ d → Completed text d

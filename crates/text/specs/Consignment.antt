@@ -1,6 +1,6 @@
 -- When a text is a consignment.
 use Rattle.std.specs.Prelude.{◌≡◌, ℕ, ◌<◌, ◌≤◌, Bool, false, cond, ◌||◌, List, [], ◌∷◌, ◌++◌, length, ℤ, pos, codes, decimal, ◌==◌, slice_index_or}
-use Rattle.std.specs.List.{flat_map, AllByRecursion as All}
+use Rattle.std.specs.List.{flat_map, AllByRecursion}
 use Rattle.std.specs.Fmt.{signed_decimal}
 use Rattle.network.specs.Limits.{max_nodes, max_arcs, max_stock}
 use Rattle.network.specs.Roads.{Near, Ranged, Passable}
@@ -58,10 +58,10 @@ stock_of (e ∷ es) i = cond (e.0 == i) e.1 (stock_of es i)
 
 -- stocks and roads that lines may name
 pub record Fitting (n : ℕ) (entries : List (ℕ × ℤ)) (roads : List Road) : Type 0 where
-  pub stocked : All (Stocked n) entries
+  pub stocked : AllByRecursion (Stocked n) entries
   pub once : Once entries
-  pub ranged : All (Ranged n) roads
-  pub passable : All Passable roads
+  pub ranged : AllByRecursion (Ranged n) roads
+  pub passable : AllByRecursion Passable roads
 
 -- the text is this consignment: its lines written out, the stocks in any order, each node at most once, and just as many arcs as it says
 pub record IsConsignment (text : List ℕ) (n m : ℕ) (stocks : List ℤ) (roads : List Road) : Type 0 where

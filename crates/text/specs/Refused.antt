@@ -1,6 +1,6 @@
 -- Why a text is refused: its first fault, in the order of its lines.
 use Rattle.std.specs.Prelude.{◌≡◌, ℕ, ◌+◌, ◌<◌, ◌≤◌, true, cond, ◌⊎◌, List, [], ◌∷◌, ◌++◌, length, take, ℤ, Err, ◌==◌, ◌≢◌, nat_lt}
-use Rattle.std.specs.List.{AllByRecursion as All}
+use Rattle.std.specs.List.{AllByRecursion}
 use Rattle.network.specs.Limits.{max_text}
 use Rattle.network.specs.Refusals.{Says, SaysAt}
 use Rattle.network.specs.Roads.{Ranged, Passable}
@@ -21,7 +21,7 @@ open_words m arcs = cond (arcs == 0) (Stock ∷ []) [] ++ cond (nat_lt arcs m) (
 
 -- the form begins with none of the words, and departs from all of them where the fault is
 pub record NoWord (words : List Word) (form : List ℕ) (place : ℕ) (e : Refusal) : Type 0 where
-  pub none : All (λ w. (rest : List ℕ) → form ≢ spelt w ++ rest) words
+  pub none : AllByRecursion (λ w. (rest : List ℕ) → form ≢ spelt w ++ rest) words
   pub says : SaysAt e 10 (place + furthest words form)
 
 -- the leftmost fault of bytes that do not have the form
