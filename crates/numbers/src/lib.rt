@@ -1,3 +1,2 @@
-#![tactic(auto)]
-
 // Lemmas on whole numbers, sums and rows that several crates share. There is no code here.
+#![tactic(auto)]

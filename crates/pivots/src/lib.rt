@@ -1,3 +1,2 @@
-#![tactic(auto)]
-
 // Exchanges of the network simplex.
+#![tactic(auto)]

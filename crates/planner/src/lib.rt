@@ -1,6 +1,6 @@
+// What the program answers to a text.
 #![tactic(auto)]
 
-// What the program answers to a text.
 #[cfg(test)]
 mod tests;
 
