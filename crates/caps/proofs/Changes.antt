@@ -11,14 +11,14 @@ use Rattle.network.specs.Roads.{with_most}
 use Rattle.network.specs.declared.refusal.Refusal.{Refusal}
 use Rattle.network.specs.declared.road.Road.{Road}
 use Rattle.network.proofs.Capped.{set_bounded}
-use Rattle.network.proofs.Places.{nth_some}
+use Rattle.std.proofs.lemmas.Option.{slice_get_within}
 use Rattle.caps.specs.Caps.{place_count, free, cap_of, Once, Unnamed, Names, nothing_at, idle, Idles, Busy, caps_other, fault_at, cap_fault, Recapped, Answers, Does, Means, Lowers, with_road}
 use Rattle.caps.specs.declared.places.CapEntry.{CapEntry}
 use Rattle.caps.proofs.Rows.{cap_first, cap_none, cap_other, once_apart}
 
 -- an arc that is there has a smaller number than a free place
 pub arc_small : (roads : List Road) (a : ℕ) (r : Road) → length roads ≤ max_arcs → slice_get roads a ≡ Some r → a < max_arcs
-arc_small roads a r few at = let l = nth_some roads a r (sym at) in omega arith
+arc_small roads a r few at = let l = slice_get_within roads a r at in omega arith
 
 -- what holds of every road holds of an arc's
 pub road_of : (P : Road → Type 0) (roads : List Road) (a : ℕ) (r : Road) → AllByRecursion P roads → slice_get roads a ≡ Some r → P r

@@ -9,7 +9,7 @@ use Rattle.std.proofs.lemmas.Int.{to_z-of_z}
 use Rattle.std.proofs.lemmas.List.Sums.{sum_by_more, sum_by-take-le}
 use Rattle.std.proofs.lemmas.Bool.Decides.{nat_tests}
 use Rattle.network.proofs.Floored.{length_left, cost_share}
-use Rattle.network.proofs.Places.{nth_some}
+use Rattle.std.proofs.lemmas.Option.{slice_get_within, get_or_from_slice_get}
 use Rattle.network.specs.Floored.{lowered, leaving, arriving, least_cost, stock_left, stocks_left, floored}
 use Rattle.network.specs.Limits.{max_arcs, max_most, max_node, max_reach}
 use Rattle.network.specs.Net.{Net, Lawful, size_of, span}
@@ -20,10 +20,6 @@ use Rattle.floors.proofs.Near.{Kept, read, sum_kept, less_kept, left_kept}
 
 -- what stands at a place
 
-nth_value : {X : Type 0} (xs : List X) (i : ℕ) (x d : X) → Some x ≡ slice_get xs i → get_or xs i d ≡ x
-nth_value [] i x d e = let z : ◌≡◌ {A = ℕ} 0 1 = cc in absurd (omega arith)
-nth_value (y ∷ xs) zero x d e = cc
-nth_value (y ∷ xs) (suc i) x d e = nth_value xs i x d e
 
 nth_left_from : (roads : List Road) (u v : ℕ) (bs : List ℤ) → slice_get (stocks_left roads u bs) v ≡ option_map (stock_left roads (u + v)) (slice_get bs v)
 nth_left_from roads u v [] = refl
@@ -38,7 +34,7 @@ nth_left roads v bs = let e : 0 + v ≡ v = omega arith in nth_left_from roads 0
 -- one road more
 
 sum_more : (f : Road → ℕ) (rs : List Road) (i : ℕ) (r : Road) → Some r ≡ slice_get rs i → sum_by f (take (i + 1) rs) ≡ sum_by f (take i rs) + f r
-sum_more f rs i r e = sum_by_more f rs i r (nth_some rs i r e) ∙ ap (λ x. sum_by f (take i rs) + f x) (nth_value rs i r r e)
+sum_more f rs i r e = sum_by_more f rs i r (slice_get_within rs i r (sym e)) ∙ ap (λ x. sum_by f (take i rs) + f x) (get_or_from_slice_get rs i r r (sym e))
 
 -- the least of a road whose tail, or head, is the node
 abbrev least_at : (Road → ℕ) → ℕ → Road → ℕ
@@ -85,12 +81,12 @@ pub arriving_low : (n : Net) → Lawful n → (v : ℕ) → arriving v n.roads �
 arriving_low n h v = leasts_low (λ r. r.head) v n h
 
 pub stock_near : (n : Net) → Lawful n → (v : ℕ) (b : ℤ) → Some b ≡ slice_get n.stocks v → nat_abs b ≤ max_node
-stock_near n h v b e = omega (arith, h.node v (nth_some n.stocks v b e), ap nat_abs (nth_value n.stocks v b (pos 0) e))
+stock_near n h v b e = omega (arith, h.node v (slice_get_within n.stocks v b (sym e)), ap nat_abs (get_or_from_slice_get n.stocks v b (pos 0) (sym e)))
 
 pub room : (n : Net) → Lawful n → (i : ℕ) (r : Road) → Some r ≡ slice_get n.roads i → r.least ≤ r.most
 room n h i r e =
-    let p = All-get_or Passable n.roads i r (nth_some n.roads i r e) h.passable
-    in omega (arith, p.room, ap (λ x. x.least) (nth_value n.roads i r r e), ap (λ x. x.most) (nth_value n.roads i r r e))
+    let p = All-get_or Passable n.roads i r (slice_get_within n.roads i r (sym e)) h.passable
+    in omega (arith, p.room, ap (λ x. x.least) (get_or_from_slice_get n.roads i r r (sym e)), ap (λ x. x.most) (get_or_from_slice_get n.roads i r r (sym e)))
 
 -- the distances from zero of the costs of the first roads' leasts
 pub first_near : (n : Net) → Lawful n → (i : ℕ) → nat_abs (least_cost (λ r. r.first) (take i n.roads)) ≤ max_reach

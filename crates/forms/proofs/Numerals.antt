@@ -11,18 +11,13 @@ use Rattle.std.proofs.lemmas.List.{take-append-drop, get_or_append_left, take_at
 use Rattle.std.proofs.lemmas.List.Sums.{prefix_len-le-length}
 use Rattle.std.proofs.lemmas.Str.Parse.{IsNumeralModel, numerals_by_fold, tells_by_index, digits_value_short}
 use Rattle.std.proofs.lemmas.Fmt.{decimal-digits_value, decimal_nonempty, first_decimal, length-decimal-le, decimal_digit, digits_decimal, digits_value-decimal}
+use Rattle.network.proofs.Tested.{test_le, le_test}
 use Rattle.network.specs.declared.refusal.Refusal.{Refusal}
 use Rattle.network.specs.declared.refusal.Refusal.TheVariants.{Form, Number}
 use Rattle.network.specs.Refusals.{SaysAt}
 use Rattle.lines.specs.Number.{max_digits, run, judged, continued, AllDigits, padded, valued, ranged, minus, unsigned, figures, width, number}
 use Rattle.forms.specs.Written.{Stops, sign, Numeral, Padded, NumberFault, no_digit, padding, many_digits, out_of_range}
 use Rattle.lines.proofs.Figures.{front_digits}
-
-pub test_le : {a b : ℤ} → le_z a b ≡ true → a ≤ℤ b
-test_le h = grind (arith, ints)
-
-pub le_test : {a b : ℤ} → a ≤ℤ b → le_z a b ≡ true
-le_test h = grind (arith, ints)
 
 digit_is : (b : ℕ) → IsInRange 48 57 b → is_ascii_digit b ≡ true
 digit_is b h = grind (arith, nat_tests)

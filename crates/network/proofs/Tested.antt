@@ -13,10 +13,10 @@ use Rattle.network.specs.declared.refusal.Refusal.TheVariants.{Number, Impassabl
 use Rattle.network.specs.declared.road.Road.{Road}
 use Rattle.network.proofs.Lawful.{rows_lawful}
 
-test_le : {a b : ℤ} → le_z a b ≡ true → a ≤ℤ b
+pub test_le : {a b : ℤ} → le_z a b ≡ true → a ≤ℤ b
 test_le h = grind (arith, ints)
 
-le_test : {a b : ℤ} → a ≤ℤ b → le_z a b ≡ true
+pub le_test : {a b : ℤ} → a ≤ℤ b → le_z a b ≡ true
 le_test h = grind (arith, ints)
 
 from_near : (far : ℕ) (z : ℤ) → is_near far z ≡ true → Near far z

@@ -1,5 +1,5 @@
 -- The number of each refusal, and its place where it has one.
-use Rattle.std.specs.Prelude.{◌≡◌, ℕ, Some, None, Option}
+use Rattle.std.specs.Prelude.{◌≡◌, ℕ, List, [], ◌++◌, Some, None, codes, decimal, Option}
 use Rattle.network.specs.declared.refusal.Refusal.{Refusal}
 use Rattle.network.specs.declared.refusal.Refusal.TheVariants.{NoSuchArc, CapRange, CapsFull, Weights, FlowRow, PriceRow, WorkRow, NoFlow, TextSize, Form, Number, Impassable, NamedTwice, TextRows, LineRow}
 
@@ -44,3 +44,12 @@ Says e k = (number_of e ≡ k) × (place_of e ≡ None)
 -- the refusal has this number, at this place
 abbrev pub SaysAt : Refusal → ℕ → ℕ → Type 0
 SaysAt e k p = (number_of e ≡ k) × (place_of e ≡ Some p)
+
+-- a space and the place, where there is one
+abbrev pub placed : Option ℕ → List ℕ
+placed None = []
+placed (Some p) = codes " " ++ decimal p
+
+-- `(refused K)` or `(refused K P)`
+abbrev pub refusal_form : Refusal → List ℕ
+refusal_form e = codes "(refused " ++ (decimal (number_of e) ++ (placed (place_of e) ++ codes ")"))

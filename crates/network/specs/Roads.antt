@@ -1,11 +1,18 @@
 -- What the numbers of a road and of a stock may be.
 use Rattle.std.specs.Prelude.{◌≡◌, ℕ, ◌<◌, ◌≤◌, ℤ, pos, neg_ℤ, ◌≤ℤ◌}
 use Rattle.network.specs.Limits.{max_most, max_cost}
+use Rattle.network.specs.declared.road.End.{End}
+use Rattle.network.specs.declared.road.End.TheVariants.{Tail, Head}
 use Rattle.network.specs.declared.road.Road.{Road}
 
 -- at most so far from zero
 abbrev pub Near : ℕ → ℤ → Type 0
 Near far z = (neg_ℤ (pos far) ≤ℤ z) × (z ≤ℤ pos far)
+
+-- the node at an end of a road
+abbrev pub end_node : End → Road → ℕ
+end_node Tail r = r.tail
+end_node Head r = r.head
 
 -- the road joins nodes of the network, and each of its numbers is within its limit
 pub record Ranged (nodes : ℕ) (r : Road) : Type 0 where

@@ -1,6 +1,8 @@
 // Why a call is sent away.
-ghost use Rattle.std.specs.Prelude.{◌≡◌};
-ghost use Rattle.network.specs.Refusals.{number_of, place_of};
+ghost use Rattle.std.specs.Prelude.{◌≡◌, Some};
+ghost use Rattle.network.specs.Refusals.{number_of, place_of, refusal_form};
+
+use std::fmt;
 
 /// Every refusal of the planner. `number` and `place` are what a caller is told.
 #[derive(Clone, Copy, Debug, PartialEq, Eq)]
@@ -71,6 +73,19 @@ impl Refusal {
             | Refusal::Impassable(p)
             | Refusal::NamedTwice(p) => Some(*p),
             _ => None,
+        }
+    }
+}
+
+/// `(refused 8)`, or with a place `(refused 10 57)`.
+impl fmt::Display for Refusal {
+    ghost output = { λ e. Some (refusal_form e) };
+
+    fn fmt<W: fmt::Write>(&self, f: &mut fmt::Formatter<W>) -> fmt::Result {
+        let number = self.number();
+        match self.place() {
+            Some(place) => write!(f, "(refused {number} {place})"),
+            None => write!(f, "(refused {number})"),
         }
     }
 }

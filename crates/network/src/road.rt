@@ -1,7 +1,12 @@
 // Roads.
+ghost use Rattle.std.specs.Prelude.{◌≡◌, Decides};
+ghost use Rattle.network.specs.Roads.{Passable, end_node};
+ghost use Rattle.network.specs.Tested.{is_passable};
 
 /// A road for chests, the data of an arc: from `tail` to `head` it carries from `least` to `most` chests, each at two costs.
-#[derive(Clone, Copy, Debug, PartialEq, Eq)]
+///
+/// The default is a road that carries nothing, from the first node to itself.
+#[derive(Clone, Copy, Debug, Default, PartialEq, Eq)]
 pub struct Road {
     pub tail: u32,
     pub head: u32,
@@ -11,4 +16,31 @@ pub struct Road {
     pub first: i32,
     /// Ageing for each chest.
     pub second: i32,
+}
+
+/// An end of a road: chests leave its tail and arrive at its head.
+#[derive(Clone, Copy, Debug, PartialEq, Eq)]
+pub enum End {
+    Tail,
+    Head,
+}
+
+impl Road {
+    /// The node at this end.
+    pub fn end_node(&self, end: End) -> u32
+        ensures { result ≡ end_node end self.now }
+    {
+        match end {
+            End::Tail => self.tail,
+            End::Head => self.head,
+        }
+    }
+
+    /// Whether the road goes somewhere, and some number of chests can take it.
+    pub fn is_passable(&self) -> bool
+        ensures value { result ≡ is_passable self.now }
+        ensures decides { Decides result (Passable self.now) }
+    {
+        self.tail != self.head && self.least <= self.most
+    }
 }
