@@ -1,16 +1,17 @@
 -- A grid within its limits keeps the laws of a network.
-use Rattle.std.proofs.Common.{◌≡◌, ℕ, zero, suc, ◌+◌, ◌-◌, ◌*◌, ◌/◌, ◌%◌, ◌<◌, ◌≤◌, ◌||◌, eqb, ltb, List, map, length, get_or, ℤ, pos, negsuc, nat_abs, sym, subst, add-mul, mul-zero, zero-add, arith}
+use Rattle.std.proofs.Common.{◌≡◌, ℕ, zero, suc, ◌+◌, ◌-◌, ◌*◌, ◌/◌, ◌%◌, ◌<◌, ◌≤◌, eqb, ltb, map, length, get_or, pos, nat_abs, sym, subst, add-mul, mul-zero, zero-add, arith}
 use Rattle.std.specs.List.{range_with_len, AllByRecursion}
 use Rattle.std.proofs.lemmas.Nat.{div_below, mod_below, mul-add-lt, mul-le}
 use Rattle.std.proofs.lemmas.List.FromFn.{length-map-range_with_len, get_or-map-range_with_len}
-use Rattle.std.proofs.ByRecursion.{All-from_get_or, All-weaker, sum_by_le}
+use Rattle.std.proofs.ByRecursion.{All-from_get_or, All-weaker}
 use Rattle.std.proofs.lemmas.Int.{ints}
 use Rattle.std.proofs.lemmas.Bool.{cond_both, ltb-true, ltb-false}
 use Rattle.network.specs.Gridded.{Side, grid_road, right_from, down_from, right_count, down_count, grid_arcs, right_road, down_road, grid_arc, offered, wanted, grid_stock, gridded}
-use Rattle.network.specs.Limits.{max_side, max_grid_chests, max_most, max_cost}
-use Rattle.network.specs.Net.{Lawful, touch, touching, span, reach_of}
-use Rattle.network.specs.Roads.{Near, Ranged, Passable}
+use Rattle.network.specs.Limits.{max_side, max_grid_chests}
+use Rattle.network.specs.Net.{Lawful}
+use Rattle.network.specs.Roads.{Ranged, Passable}
 use Rattle.network.specs.declared.road.Road.{Road}
+use Rattle.network.proofs.Lawful.{near_distance, touching_le, reach_le}
 
 -- what the laws ask of each road of a network with so many nodes
 record Good (nodes : ℕ) (r : Road) : Type 0 where
@@ -90,32 +91,11 @@ counted f P n holds =
     let below : i < n = omega (arith, length-map-range_with_len f 0 n) in
     subst P (sym (get_or-map-range_with_len f 0 n i i (f 0) below (zero-add i))) (holds i below))
 
--- crude bounds, from the limits of each road
-abs_near : (far : ℕ) (z : ℤ) → Near far z → nat_abs z ≤ far
-abs_near far (pos n) h = omega (arith, ints)
-abs_near far (negsuc n) h = omega (arith, ints)
-
-touch_le : (nodes v : ℕ) (r : Road) → Good nodes r → touch v r ≤ max_most
-touch_le nodes v r good =
-    cond_both (eqb r.tail v || eqb r.head v) r.most 0 (λ n. n ≤ max_most) (λ _. good.ranged.most) (λ _. omega arith)
-
-touching_le : (nodes v : ℕ) (roads : List Road) → AllByRecursion (Good nodes) roads → touching v roads ≤ length roads * max_most
-touching_le nodes v roads good =
-    sum_by_le (touch v) max_most roads (All-weaker (Good nodes) (λ r. touch v r ≤ max_most) (touch_le nodes v) roads good)
-
-span_le : (cost : Road → ℤ) (r : Road) → r.most ≤ max_most → Near max_cost (cost r) → span cost r ≤ max_most * max_cost
-span_le cost r most near = mul-le r.most (nat_abs (cost r)) max_most max_cost most (abs_near max_cost (cost r) near)
-
-reach_le : (nodes : ℕ) (cost : Road → ℤ) → ((r : Road) → Good nodes r → Near max_cost (cost r)) → (roads : List Road) → AllByRecursion (Good nodes) roads → reach_of cost roads ≤ length roads * (max_most * max_cost)
-reach_le nodes cost near roads good =
-    sum_by_le (span cost) (max_most * max_cost) roads
-    (All-weaker (Good nodes) (λ r. span cost r ≤ max_most * max_cost) (λ r g. span_le cost r g.ranged.most (near r g)) roads good)
-
 stock_near : (nodes chests v : ℕ) → nat_abs (grid_stock nodes chests v) ≤ chests
 stock_near nodes chests v =
     let offer : offered chests v ≤ chests = cond_both (eqb v 0) chests 0 (λ n. n ≤ chests) (λ _. omega arith) (λ _. omega arith) in
     let want : wanted nodes chests v ≤ chests = cond_both (eqb (v + 1) nodes) chests 0 (λ n. n ≤ chests) (λ _. omega arith) (λ _. omega arith) in
-    abs_near chests (grid_stock nodes chests v) (omega (arith, ints), omega (arith, ints))
+    near_distance chests (grid_stock nodes chests v) (omega (arith, ints), omega (arith, ints))
 
 stock_le : (nodes chests v : ℕ) → v < nodes → nat_abs (get_or (map (grid_stock nodes chests) (range_with_len 0 nodes)) v (pos 0)) ≤ chests
 stock_le nodes chests v below =
@@ -136,13 +116,14 @@ gridded_lawful rows columns chests tall wide few =
     let all_arcs : length roads ≡ grid_arcs rows columns = length-map-range_with_len (grid_arc rows columns) 0 (grid_arcs rows columns) in
     let short : length roads ≤ 364 = omega (arith, arcs_le rows columns tall.1 wide.1) in
     let good : AllByRecursion (Good nodes) roads = counted (grid_arc rows columns) (Good nodes) (grid_arcs rows columns) (grid_arc_lem rows columns) in
+    let ranged : AllByRecursion (Ranged nodes) roads = All-weaker (Good nodes) (Ranged nodes) (λ r g. g.ranged) roads good in
     record {
       some = omega (arith, mul-le 1 1 rows columns tall.0 wide.0);
       nodes = omega (arith, mul-le rows columns 14 14 tall.1 wide.1);
       arcs = omega arith;
-      ranged = subst (λ n. AllByRecursion (Ranged n) roads) (sym all_nodes) (All-weaker (Good nodes) (Ranged nodes) (λ r g. g.ranged) roads good);
+      ranged = subst (λ n. AllByRecursion (Ranged n) roads) (sym all_nodes) ranged;
       passable = All-weaker (Good nodes) Passable (λ r g. g.passable) roads good;
-      node = λ v h. omega (arith, stock_le nodes chests v (omega arith), touching_le nodes v roads good);
-      first = omega (arith, reach_le nodes (λ r. r.first) (λ r g. g.ranged.first) roads good);
-      second = omega (arith, reach_le nodes (λ r. r.second) (λ r g. g.ranged.second) roads good);
+      node = λ v h. omega (arith, stock_le nodes chests v (omega arith), touching_le v nodes roads ranged);
+      first = omega (arith, reach_le (λ r. r.first) nodes roads (λ r g. g.first) ranged);
+      second = omega (arith, reach_le (λ r. r.second) nodes roads (λ r g. g.second) ranged);
     }

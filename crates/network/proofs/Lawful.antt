@@ -1,31 +1,22 @@
 -- Rows whose numbers are within their limits make a lawful network.
-use Rattle.std.proofs.Common.{ℕ, suc, ◌*◌, ◌<◌, ◌≤◌, Bool, true, false, cond, ◌||◌, eqb, List, length, get_or, ℤ, pos, negsuc, neg_ℤ, nat_abs, ◌≤ℤ◌, mul-le-mul, arith}
+use Rattle.std.proofs.Common.{ℕ, ◌*◌, ◌<◌, ◌≤◌, ◌||◌, eqb, List, length, get_or, ℤ, pos, negsuc, nat_abs, mul-le-mul, arith}
 use Rattle.std.specs.List.{AllByRecursion}
 use Rattle.std.proofs.ByRecursion.{All-weaker, All-get_or, sum_by_le}
 use Rattle.std.proofs.lemmas.Int.{ints}
+use Rattle.std.proofs.lemmas.Bool.{cond_both}
 use Rattle.network.specs.Limits.{max_nodes, max_arcs, max_stock, max_most, max_cost}
 use Rattle.network.specs.Net.{Lawful, touch, touching, span, reach_of, rows_net}
 use Rattle.network.specs.Roads.{Near, Ranged, Passable}
 use Rattle.network.specs.declared.road.Road.{Road}
 
-high : (k n : ℕ) → pos n ≤ℤ pos k → n ≤ k
-high k n h = grind (arith, ints)
-
-low : (k n : ℕ) → neg_ℤ (pos k) ≤ℤ negsuc n → suc n ≤ k
-low k n h = grind (arith, ints)
-
 pub near_distance : (k : ℕ) (z : ℤ) → Near k z → nat_abs z ≤ k
-near_distance k (pos n) h = high k n h.1
-near_distance k (negsuc n) h = low k n h.0
-
-at_most : (b : Bool) (u k : ℕ) → u ≤ k → cond b u 0 ≤ k
-at_most true u k h = h
-at_most false u k h = omega arith
+near_distance k (pos n) h = omega (arith, ints)
+near_distance k (negsuc n) h = omega (arith, ints)
 
 -- at most as much at a node as all mosts together
 pub touching_le : (v n : ℕ) (roads : List Road) → AllByRecursion (Ranged n) roads → touching v roads ≤ length roads * max_most
 touching_le v n roads h =
-    sum_by_le (touch v) max_most roads (All-weaker (Ranged n) (λ r. touch v r ≤ max_most) (λ r g. at_most (eqb r.tail v || eqb r.head v) r.most max_most g.most) roads h)
+    sum_by_le (touch v) max_most roads (All-weaker (Ranged n) (λ r. touch v r ≤ max_most) (λ r g. cond_both (eqb r.tail v || eqb r.head v) r.most 0 (λ u. u ≤ max_most) (λ _. g.most) (λ _. omega arith)) roads h)
 
 pub reach_le : (cost : Road → ℤ) (n : ℕ) (roads : List Road) → ((r : Road) → Ranged n r → Near max_cost (cost r)) → AllByRecursion (Ranged n) roads → reach_of cost roads ≤ length roads * (max_most * max_cost)
 reach_le cost n roads near h =
