@@ -1,7 +1,7 @@
 // A table is a network.
 ghost use Rattle.std.specs.Prelude.{◌≡◌};
 ghost use Rattle.std.proofs.Common.{ap};
-ghost use Rattle.network.specs.Net.{size_of};
+ghost use Rattle.network.specs.Net.{size_of, rows_net};
 ghost use Rattle.network.specs.Tested.{table_net, passed, row_fault};
 ghost use Rattle.network.proofs.Tested.{table_lawful};
 
@@ -32,6 +32,16 @@ impl<'a> Table<'a> {
     {
         self.fault
     }
+
+    // The rows that the table means: where the caller's are at fault, one node with stock 0 and no arcs.
+    fn rows(&self) -> (&'a [Road], &'a [i32])
+        ensures { table_net (passed self.now.fault) self.now.roads.now self.now.stocks.now ≡ rows_net result.0.now result.1.now }
+    {
+        match self.fault {
+            None => (self.roads, self.stocks),
+            Some(_) => (&[], &[0]),
+        }
+    }
 }
 
 impl<'a> Network for Table<'a> {
@@ -40,28 +50,21 @@ impl<'a> Network for Table<'a> {
     ghost laws = { λ s. table_lawful (passed s.fault) s.roads.now s.stocks.now (ap passed s.tested) };
 
     fn size(&mut self) -> Size {
-        let (nodes, arcs) = match self.fault {
-            None => (self.stocks.len(), self.roads.len()),
-            Some(_) => (1, 0),
-        };
+        let (roads, stocks) = self.rows();
         Size {
-            nodes,
-            arcs,
+            nodes: stocks.len(),
+            arcs: roads.len(),
             fixed: (0, 0),
         }
     }
 
     fn stock(&mut self, node: usize) -> Option<i64> {
-        match self.fault {
-            None => self.stocks.get(node).copied().map(i64::from),
-            Some(_) => (node == 0).then_some(0),
-        }
+        let (_, stocks) = self.rows();
+        stocks.get(node).copied().map(i64::from)
     }
 
     fn arc(&mut self, arc: usize) -> Option<Road> {
-        match self.fault {
-            None => self.roads.get(arc).copied(),
-            Some(_) => None,
-        }
+        let (roads, _) = self.rows();
+        roads.get(arc).copied()
     }
 }
