@@ -1,5 +1,5 @@
 -- Sums over the first roads of a network, and their bounds.
-use Rattle.std.proofs.Common.{◌≡◌, ℕ, zero, suc, ◌+◌, ◌*◌, ◌≤◌, cond, eqb, List, [], ◌∷◌, get_or, take, ℤ, pos, ◌+ℤ◌, ◌-ℤ◌, ◌*ℤ◌, nat_abs, Some, sum_by, sym, refl, ap, ◌∙◌, mul-le-mul, add-one, arith, w32, w64, SFits, to_z, of_z}
+use Rattle.std.proofs.Common.{◌≡◌, ℕ, zero, suc, ◌+◌, ◌*◌, ◌≤◌, cond, eqb, List, [], ◌∷◌, length, get_or, take, ℤ, pos, ◌+ℤ◌, ◌-ℤ◌, ◌*ℤ◌, nat_abs, Some, sum_by, sym, refl, ap, subst, ◌∙◌, mul-le-mul, add-one, arith, w32, w64, SFits, to_z, of_z}
 use lib.IntN.{+ℤ_assoc, +ℤ_idl, +ℤ_idr}
 use lib.ListN.{length-map}
 use Rattle.std.specs.List.{slice_get}
@@ -13,9 +13,13 @@ use Rattle.std.proofs.lemmas.Option.{slice_get_within, get_or_from_slice_get}
 use Rattle.network.specs.Floored.{lowered, leaving, arriving, least_cost, stock_left, stocks_left, floored}
 use Rattle.network.specs.Limits.{max_arcs, max_most, max_node, max_reach}
 use Rattle.network.specs.Net.{Net, Lawful, size_of, span}
-use Rattle.network.specs.Roads.{Ranged, Passable}
+use Rattle.network.specs.Roads.{Ranged, Passable, end_node}
+use Rattle.network.specs.declared.road.End.{End}
+use Rattle.network.specs.declared.road.End.TheVariants.{Tail, Head}
 use Rattle.network.specs.declared.road.Road.{Road}
 use Rattle.network.specs.declared.size.Size.{Size}
+use Rattle.floors.specs.Leasts.{leasts_at}
+use Rattle.std.proofs.lemmas.List.{take_all}
 use Rattle.floors.proofs.Near.{Kept, read, sum_kept, less_kept, left_kept}
 
 -- what stands at a place
@@ -36,30 +40,16 @@ nth_left roads v bs = let e : 0 + v ≡ v = omega arith in nth_left_from roads 0
 sum_more : (f : Road → ℕ) (rs : List Road) (i : ℕ) (r : Road) → Some r ≡ slice_get rs i → sum_by f (take (i + 1) rs) ≡ sum_by f (take i rs) + f r
 sum_more f rs i r e = sum_by_more f rs i r (slice_get_within rs i r (sym e)) ∙ ap (λ x. sum_by f (take i rs) + f x) (get_or_from_slice_get rs i r r (sym e))
 
--- the least of a road whose tail, or head, is the node
-abbrev least_at : (Road → ℕ) → ℕ → Road → ℕ
-least_at end v r = cond (eqb (end r) v) r.least 0
+-- the leasts at an end, with one road more, and their bound
+pub leasts_more : (end : End) (v : ℕ) (rs : List Road) (i : ℕ) (r : Road) → Some r ≡ slice_get rs i → leasts_at end v (take (i + 1) rs) ≡ leasts_at end v (take i rs) + cond (eqb (end_node end r) v) r.least 0
+leasts_more end v rs i r e = sum_more (λ x. cond (eqb (end_node end x) v) x.least 0) rs i r e
 
-leasts_low : (end : Road → ℕ) (v : ℕ) (n : Net) → Lawful n → sum_by (least_at end v) n.roads ≤ max_arcs * max_most
-leasts_low end v n h =
-    let each = All-weaker (Ranged _) (λ r. least_at end v r ≤ max_most) (λ r k. let low = k.least in grind (arith, nat_tests)) n.roads h.ranged
+pub leasts_low : (end : End) (v : ℕ) (n : Net) → Lawful n → (i : ℕ) → leasts_at end v (take i n.roads) ≤ max_arcs * max_most
+leasts_low end v n h i =
+    let least : Road → ℕ = λ r. cond (eqb (end_node end r) v) r.least 0 in
+    let each = All-weaker (Ranged _) (λ r. least r ≤ max_most) (λ r k. let low = k.least in grind (arith, nat_tests)) n.roads h.ranged
     in let k : max_most ≤ max_most = omega arith
-    in omega (arith, sum_by_le (least_at end v) max_most n.roads each, mul-le-mul h.arcs k)
-
--- a road that ends at the node
-pub takes : (end : Road → ℕ) (v : ℕ) (n : Net) → Lawful n → (i sum : ℕ) (r : Road) → Some r ≡ slice_get n.roads i → sum ≡ sum_by (least_at end v) (take i n.roads) → end r ≡ v
-    → (sum + r.least ≤ max_arcs * max_most) × (sum + r.least ≡ sum_by (least_at end v) (take (i + 1) n.roads))
-takes end v n h i sum r e so_far at =
-    let here : least_at end v r ≡ r.least = grind (arith, nat_tests)
-    in let more : sum + r.least ≡ sum_by (least_at end v) (take (i + 1) n.roads) = omega (arith, sum_more (least_at end v) n.roads i r e)
-    in (omega (arith, leasts_low end v n h, sum_by-take-le (least_at end v) n.roads (i + 1)), more)
-
--- one that does not
-pub passes : (end : Road → ℕ) (v : ℕ) (n : Net) (i sum : ℕ) (r : Road) → Some r ≡ slice_get n.roads i → sum ≡ sum_by (least_at end v) (take i n.roads) → (end r ≡ v → ⊥)
-    → sum ≡ sum_by (least_at end v) (take (i + 1) n.roads)
-passes end v n i sum r e so_far off =
-    let here : least_at end v r ≡ 0 = grind (arith, nat_tests)
-    in omega (arith, sum_more (least_at end v) n.roads i r e)
+    in omega (arith, sum_by-take-le least n.roads i, sum_by_le least max_most n.roads each, mul-le-mul h.arcs k)
 
 cost_step : (cost : Road → ℤ) (rs : List Road) (i : ℕ) (r : Road) → Some r ≡ slice_get rs i → least_cost cost (take (suc i) rs) ≡ least_cost cost (take i rs) +ℤ (pos r.least *ℤ cost r)
 cost_step cost [] i r e = let z : ◌≡◌ {A = ℕ} 0 1 = cc in absurd (omega arith)
@@ -75,10 +65,10 @@ cost_more cost rs i r e = simp add-one (cost_step cost rs i r e)
 -- bounds by the laws
 
 pub leaving_low : (n : Net) → Lawful n → (v : ℕ) → leaving v n.roads ≤ max_arcs * max_most
-leaving_low n h v = leasts_low (λ r. r.tail) v n h
+leaving_low n h v = subst (λ rs. leaving v rs ≤ max_arcs * max_most) (take_all (length n.roads) n.roads (omega arith)) (leasts_low Tail v n h (length n.roads))
 
 pub arriving_low : (n : Net) → Lawful n → (v : ℕ) → arriving v n.roads ≤ max_arcs * max_most
-arriving_low n h v = leasts_low (λ r. r.head) v n h
+arriving_low n h v = subst (λ rs. arriving v rs ≤ max_arcs * max_most) (take_all (length n.roads) n.roads (omega arith)) (leasts_low Head v n h (length n.roads))
 
 pub stock_near : (n : Net) → Lawful n → (v : ℕ) (b : ℤ) → Some b ≡ slice_get n.stocks v → nat_abs b ≤ max_node
 stock_near n h v b e = omega (arith, h.node v (slice_get_within n.stocks v b (sym e)), ap nat_abs (get_or_from_slice_get n.stocks v b (pos 0) (sym e)))
@@ -106,6 +96,10 @@ cost_kept cost rs i r e a z so_far fz fc ez near =
 -- a fixed cost and what the leasts cost, added in 64 bits
 pub fixed_kept : (a b x y : ℤ) → SFits w64 a → SFits w64 b → a ≡ x → b ≡ y → nat_abs (x +ℤ y) ≤ max_reach → Kept (to_z w64 (of_z w64 a) +ℤ to_z w64 (of_z w64 b)) (x +ℤ y)
 fixed_kept a b x y fa fb ea eb near = sum_kept _ _ x y (read a x fa ea) (read b y fb eb) near
+
+-- both costs of the leasts, said of the network as it came
+pub costs_of : (n m : Net) (p : ℤ × ℤ) → p ≡ (least_cost (λ r. r.first) m.roads, least_cost (λ r. r.second) m.roads) → m ≡ n → (p.0 ≡ least_cost (λ r. r.first) n.roads) × (p.1 ≡ least_cost (λ r. r.second) n.roads)
+costs_of n m p e same = (ap (λ q. q.0) e ∙ ap (λ k. least_cost (λ r. r.first) k.roads) same, ap (λ q. q.1) e ∙ ap (λ k. least_cost (λ r. r.second) k.roads) same)
 
 -- the size of the network without its leasts
 pub size_is : (n : Net) (s : Size) (x y : ℤ) → s ≡ size_of n → x ≡ (floored n).fixed.0 → y ≡ (floored n).fixed.1
