@@ -1,11 +1,10 @@
 -- Sums over the first roads of a network, and their bounds.
-use Rattle.std.proofs.Common.{◌≡◌, ℕ, zero, suc, ◌+◌, ◌*◌, ◌≤◌, cond, eqb, List, [], ◌∷◌, length, get_or, take, ℤ, pos, ◌+ℤ◌, ◌-ℤ◌, ◌*ℤ◌, nat_abs, Some, sum_by, sym, refl, ap, subst, ◌∙◌, mul-le-mul, add-one, arith, w32, w64, SFits, to_z, of_z}
+use Rattle.std.proofs.Common.{◌≡◌, ℕ, zero, suc, ◌+◌, ◌*◌, ◌≤◌, cond, eqb, List, [], ◌∷◌, length, take, ℤ, pos, ◌+ℤ◌, ◌*ℤ◌, nat_abs, Some, sum_by, sym, refl, ap, subst, ◌∙◌, mul-le-mul, add-one, arith}
 use lib.IntN.{+ℤ_assoc, +ℤ_idl, +ℤ_idr}
 use lib.ListN.{length-map}
 use Rattle.std.specs.List.{slice_get}
 use Rattle.std.specs.Option.{option_map}
-use Rattle.std.proofs.ByRecursion.{All-get_or, All-weaker, All-take, sum_by_le}
-use Rattle.std.proofs.lemmas.Int.{to_z-of_z}
+use Rattle.std.proofs.ByRecursion.{All-weaker, All-take, sum_by_le}
 use Rattle.std.proofs.lemmas.List.Sums.{sum_by_more, sum_by-take-le}
 use Rattle.std.proofs.lemmas.Bool.Decides.{nat_tests}
 use Rattle.network.proofs.Floored.{length_left, cost_share}
@@ -20,10 +19,8 @@ use Rattle.network.specs.declared.road.Road.{Road}
 use Rattle.network.specs.declared.size.Size.{Size}
 use Rattle.floors.specs.Leasts.{leasts_at}
 use Rattle.std.proofs.lemmas.List.{take_all}
-use Rattle.floors.proofs.Near.{Kept, read, sum_kept, less_kept, left_kept}
 
 -- what stands at a place
-
 
 nth_left_from : (roads : List Road) (u v : ℕ) (bs : List ℤ) → slice_get (stocks_left roads u bs) v ≡ option_map (stock_left roads (u + v)) (slice_get bs v)
 nth_left_from roads u v [] = refl
@@ -73,29 +70,12 @@ arriving_low n h v = subst (λ rs. arriving v rs ≤ max_arcs * max_most) (take_
 pub stock_near : (n : Net) → Lawful n → (v : ℕ) (b : ℤ) → Some b ≡ slice_get n.stocks v → nat_abs b ≤ max_node
 stock_near n h v b e = omega (arith, h.node v (slice_get_within n.stocks v b (sym e)), ap nat_abs (get_or_from_slice_get n.stocks v b (pos 0) (sym e)))
 
-pub room : (n : Net) → Lawful n → (i : ℕ) (r : Road) → Some r ≡ slice_get n.roads i → r.least ≤ r.most
-room n h i r e =
-    let p = All-get_or Passable n.roads i r (slice_get_within n.roads i r (sym e)) h.passable
-    in omega (arith, p.room, ap (λ x. x.least) (get_or_from_slice_get n.roads i r r (sym e)), ap (λ x. x.most) (get_or_from_slice_get n.roads i r r (sym e)))
-
 -- the distances from zero of the costs of the first roads' leasts
 pub first_near : (n : Net) → Lawful n → (i : ℕ) → nat_abs (least_cost (λ r. r.first) (take i n.roads)) ≤ max_reach
 first_near n h i = omega (arith, h.first, cost_share (λ r. r.first) (λ r. refl) (take i n.roads) (All-take Passable i n.roads h.passable), sum_by-take-le (span (λ r. r.first)) n.roads i)
 
 pub second_near : (n : Net) → Lawful n → (i : ℕ) → nat_abs (least_cost (λ r. r.second) (take i n.roads)) ≤ max_reach
 second_near n h i = omega (arith, h.second, cost_share (λ r. r.second) (λ r. refl) (take i n.roads) (All-take Passable i n.roads h.passable), sum_by-take-le (span (λ r. r.second)) n.roads i)
-
--- one road more, added in 64 bits
-pub cost_kept : (cost : Road → ℤ) (rs : List Road) (i : ℕ) (r : Road) → Some r ≡ slice_get rs i → (a z : ℤ) → a ≡ least_cost cost (take i rs) → SFits w64 z → SFits w32 (cost r)
-    → z ≡ pos r.least *ℤ to_z w32 (of_z w32 (cost r)) → nat_abs (least_cost cost (take (i + 1) rs)) ≤ max_reach → Kept (a +ℤ to_z w64 (of_z w64 z)) (least_cost cost (take (i + 1) rs))
-cost_kept cost rs i r e a z so_far fz fc ez near =
-    let more = cost_more cost rs i r e
-    in let k = sum_kept a (to_z w64 (of_z w64 z)) (least_cost cost (take i rs)) (pos r.least *ℤ cost r) so_far (read z _ fz (ez ∙ ap (λ y. pos r.least *ℤ y) (to_z-of_z w32 (cost r) fc))) (omega (arith, ap nat_abs more))
-    in (k.0, k.1 ∙ sym more)
-
--- a fixed cost and what the leasts cost, added in 64 bits
-pub fixed_kept : (a b x y : ℤ) → SFits w64 a → SFits w64 b → a ≡ x → b ≡ y → nat_abs (x +ℤ y) ≤ max_reach → Kept (to_z w64 (of_z w64 a) +ℤ to_z w64 (of_z w64 b)) (x +ℤ y)
-fixed_kept a b x y fa fb ea eb near = sum_kept _ _ x y (read a x fa ea) (read b y fb eb) near
 
 -- both costs of the leasts, said of the network as it came
 pub costs_of : (n m : Net) (p : ℤ × ℤ) → p ≡ (least_cost (λ r. r.first) m.roads, least_cost (λ r. r.second) m.roads) → m ≡ n → (p.0 ≡ least_cost (λ r. r.first) n.roads) × (p.1 ≡ least_cost (λ r. r.second) n.roads)
@@ -108,14 +88,3 @@ size_is n s x y e ex ey =
     let nodes = ap (λ t. t.nodes) e ∙ sym (length_left n.roads 0 n.stocks)
     in let arcs = ap (λ t. t.arcs) e ∙ sym (length-map n.roads lowered)
     in λ i. record { nodes = nodes i; arcs = arcs i; fixed = (ex i, ey i) }
-
--- a node's stock less what has left, in 64 bits
-pub less_of : (n : Net) → Lawful n → (v : ℕ) (b out : ℤ) → Some b ≡ slice_get n.stocks v → SFits w64 b → SFits w64 out → out ≡ pos (leaving v n.roads)
-    → Kept (to_z w64 (of_z w64 b) -ℤ to_z w64 (of_z w64 out)) (b -ℤ pos (leaving v n.roads))
-less_of n h v b out e fb fo eo = less_kept _ _ b (leaving v n.roads) (to_z-of_z w64 b fb) (read out _ fo eo) (stock_near n h v b e) (leaving_low n h v)
-
--- and with what has arrived
-pub left_of : (n : Net) → Lawful n → (v : ℕ) (b less back : ℤ) → Some b ≡ slice_get n.stocks v → less ≡ b -ℤ pos (leaving v n.roads) → SFits w64 back → back ≡ pos (arriving v n.roads)
-    → Kept (less +ℤ to_z w64 (of_z w64 back)) (stock_left n.roads v b)
-left_of n h v b less back e el fb eb =
-    left_kept less _ b (leaving v n.roads) (arriving v n.roads) el (read back _ fb eb) (stock_near n h v b e) (leaving_low n h v) (arriving_low n h v)

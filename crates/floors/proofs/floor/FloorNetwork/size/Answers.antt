@@ -1,7 +1,6 @@
-use Rattle.std.proofs.Common.{◌≡◌, ◌+ℤ◌, ◌∙◌, ap, arith, w64, to_z, of_z}
+use Rattle.std.proofs.Common.{ap, arith}
 use Rattle.std.proofs.lemmas.Int.{ints, to_z-of_z}
 use Rattle.network.proofs.Floored.{floored_lawful}
-use Rattle.network.specs.Floored.{least_cost, floored}
 use Rattle.floors.proofs.Leasts.{costs_of, size_is}
 use Rattle.floors.proofs.floor.FloorNetwork.size.Goals as goal
 

@@ -1,5 +1,4 @@
-use Rattle.std.proofs.Common.{rules, ap, ◌∙◌, Some}
-use Rattle.network.specs.Floored.{stock_left}
+use Rattle.std.proofs.Common.{rules}
 use Rattle.floors.proofs.Leasts.{nth_left}
 use Rattle.floors.proofs.floor.FloorNetwork.stock.Goals as goal
 
