@@ -2,7 +2,7 @@ use Rattle.std.proofs.Common.{◌≡◌, ◌∙◌, ap, arith}
 use Rattle.std.proofs.lemmas.Int.{ints, to_z-of_z}
 use Rattle.network.specs.declared.road.End.TheVariants.{Tail, Head}
 use Rattle.floors.specs.Leasts.{leasts_at}
-use Rattle.floors.proofs.Leasts.{stock_near, leaving_low, arriving_low}
+use Rattle.floors.proofs.Leasts.{stock_near, leasts_low}
 use Rattle.floors.proofs.sums.stock_left.Given as given
 use Rattle.floors.proofs.sums.stock_left.Goals as goal
 
@@ -20,8 +20,8 @@ overflow_add-result g c =
     in let h = g.N.Network.laws c.args.network.now
     in let parts = moved g c
     in let near = stock_near n h c.args.node c.args.stock c.requires
-    in let out = leaving_low n h c.args.node
-    in let back = arriving_low n h c.args.node
+    in let out = leasts_low Tail c.args.node n h
+    in let back = leasts_low Head c.args.node n h
     in grind (arith, ints, to_z-of_z)
 
 pub returns-clause-value : goal.returns-clause-value
@@ -30,6 +30,6 @@ returns-clause-value g c =
     in let h = g.N.Network.laws c.args.network.now
     in let parts = moved g c
     in let near = stock_near n h c.args.node c.args.stock c.requires
-    in let out = leaving_low n h c.args.node
-    in let back = arriving_low n h c.args.node
+    in let out = leasts_low Tail c.args.node n h
+    in let back = leasts_low Head c.args.node n h
     in grind (arith, ints, to_z-of_z)
