@@ -16,6 +16,7 @@ pub fn least_costs<N: Network>(network: &mut N, arcs: usize) -> (i64, i64)
 {
     let mut first = 0;
     let mut second = 0;
+    // kept: `sum` or `fold` over a closure that asks the network leaves the clause `same` open, since nothing is known of what it borrowed
     for i in 0..arcs {
         let road = road_of(network, i);
         first += cost_of(road.least, road.first);
@@ -43,8 +44,10 @@ fn leasts_at<N: Network>(network: &mut N, arcs: usize, end: End, node: usize) ->
     ensures same { N.Network.meaning network.new ≡ N.Network.meaning network.old }
 {
     let mut sum = 0;
+    // kept: `sum` or `fold` over a closure that asks the network leaves the clause `same` open, since nothing is known of what it borrowed
     for i in 0..arcs {
         let road = road_of(network, i);
+        // kept: `usize` has no `From<u32>`, so the end is cast
         if road.end_node(end) as usize == node {
             sum += road.least;
         }
