@@ -1,25 +1,24 @@
 -- Sums over the first roads of a network, and their bounds.
-use Rattle.std.proofs.Common.{◌≡◌, ℕ, zero, suc, ◌+◌, ◌*◌, ◌≤◌, cond, eqb, List, [], ◌∷◌, get_or, take, ℤ, pos, ◌+ℤ◌, ◌-ℤ◌, ◌*ℤ◌, nat_abs, Some, sum_by, sym, refl, ap, ◌∙◌, mul-le-mul, add-one, arith, w32, w64, SFits, to_z, of_z}
+use Rattle.std.proofs.Common.{◌≡◌, ℕ, zero, suc, ◌+◌, ◌*◌, ◌≤◌, cond, eqb, List, [], ◌∷◌, take, ℤ, pos, ◌+ℤ◌, ◌*ℤ◌, nat_abs, Some, sum_by, sym, refl, ap, ◌∙◌, mul-le-mul, add-one, arith}
 use lib.IntN.{+ℤ_assoc, +ℤ_idl, +ℤ_idr}
 use lib.ListN.{length-map}
-use Rattle.std.specs.List.{slice_get}
+use Rattle.std.specs.List.{slice_get, AllByRecursion}
 use Rattle.std.specs.Option.{option_map}
-use Rattle.std.proofs.ByRecursion.{All-get_or, All-weaker, All-take, sum_by_le}
-use Rattle.std.proofs.lemmas.Int.{to_z-of_z}
+use Rattle.std.proofs.ByRecursion.{All-weaker, All-take, sum_by_le}
 use Rattle.std.proofs.lemmas.List.Sums.{sum_by_more, sum_by-take-le}
 use Rattle.std.proofs.lemmas.Bool.Decides.{nat_tests}
 use Rattle.network.proofs.Floored.{length_left, cost_share}
 use Rattle.std.proofs.lemmas.Option.{slice_get_within, get_or_from_slice_get}
-use Rattle.network.specs.Floored.{lowered, leaving, arriving, least_cost, stock_left, stocks_left, floored}
+use Rattle.network.specs.Floored.{lowered, least_cost, stock_left, stocks_left, floored}
 use Rattle.network.specs.Limits.{max_arcs, max_most, max_node, max_reach}
-use Rattle.network.specs.Net.{Net, Lawful, size_of, span}
-use Rattle.network.specs.Roads.{Ranged, Passable}
+use Rattle.network.specs.Net.{Net, Lawful, size_of, span, reach_of}
+use Rattle.network.specs.Roads.{Ranged, Passable, end_node}
+use Rattle.network.specs.declared.road.End.{End}
 use Rattle.network.specs.declared.road.Road.{Road}
 use Rattle.network.specs.declared.size.Size.{Size}
-use Rattle.floors.proofs.Near.{Kept, read, sum_kept, less_kept, left_kept}
+use Rattle.floors.specs.Leasts.{leasts_at}
 
 -- what stands at a place
-
 
 nth_left_from : (roads : List Road) (u v : ℕ) (bs : List ℤ) → slice_get (stocks_left roads u bs) v ≡ option_map (stock_left roads (u + v)) (slice_get bs v)
 nth_left_from roads u v [] = refl
@@ -31,38 +30,22 @@ nth_left_from roads u (suc v) (b ∷ bs) =
 pub nth_left : (roads : List Road) (v : ℕ) (bs : List ℤ) → slice_get (stocks_left roads 0 bs) v ≡ option_map (stock_left roads v) (slice_get bs v)
 nth_left roads v bs = let e : 0 + v ≡ v = omega arith in nth_left_from roads 0 v bs ∙ ap (λ w. option_map (stock_left roads w) (slice_get bs v)) e
 
--- one road more
+-- the leasts at an end, with one road more, and their bound
+pub leasts_more : (end : End) (v : ℕ) (rs : List Road) (i : ℕ) (r : Road) → Some r ≡ slice_get rs i → leasts_at end v (take (i + 1) rs) ≡ leasts_at end v (take i rs) + cond (eqb (end_node end r) v) r.least 0
+leasts_more end v rs i r e =
+    let least : Road → ℕ = λ x. cond (eqb (end_node end x) v) x.least 0 in
+    sum_by_more least rs i r (slice_get_within rs i r (sym e)) ∙ ap (λ x. sum_by least (take i rs) + least x) (get_or_from_slice_get rs i r r (sym e))
 
-sum_more : (f : Road → ℕ) (rs : List Road) (i : ℕ) (r : Road) → Some r ≡ slice_get rs i → sum_by f (take (i + 1) rs) ≡ sum_by f (take i rs) + f r
-sum_more f rs i r e = sum_by_more f rs i r (slice_get_within rs i r (sym e)) ∙ ap (λ x. sum_by f (take i rs) + f x) (get_or_from_slice_get rs i r r (sym e))
-
--- the least of a road whose tail, or head, is the node
-abbrev least_at : (Road → ℕ) → ℕ → Road → ℕ
-least_at end v r = cond (eqb (end r) v) r.least 0
-
-leasts_low : (end : Road → ℕ) (v : ℕ) (n : Net) → Lawful n → sum_by (least_at end v) n.roads ≤ max_arcs * max_most
+pub leasts_low : (end : End) (v : ℕ) (n : Net) → Lawful n → leasts_at end v n.roads ≤ max_arcs * max_most
 leasts_low end v n h =
-    let each = All-weaker (Ranged _) (λ r. least_at end v r ≤ max_most) (λ r k. let low = k.least in grind (arith, nat_tests)) n.roads h.ranged
+    let least : Road → ℕ = λ r. cond (eqb (end_node end r) v) r.least 0 in
+    let each = All-weaker (Ranged _) (λ r. least r ≤ max_most) (λ r k. let low = k.least in grind (arith, nat_tests)) n.roads h.ranged
     in let k : max_most ≤ max_most = omega arith
-    in omega (arith, sum_by_le (least_at end v) max_most n.roads each, mul-le-mul h.arcs k)
+    in omega (arith, sum_by_le least max_most n.roads each, mul-le-mul h.arcs k)
 
--- a road that ends at the node
-pub takes : (end : Road → ℕ) (v : ℕ) (n : Net) → Lawful n → (i sum : ℕ) (r : Road) → Some r ≡ slice_get n.roads i → sum ≡ sum_by (least_at end v) (take i n.roads) → end r ≡ v
-    → (sum + r.least ≤ max_arcs * max_most) × (sum + r.least ≡ sum_by (least_at end v) (take (i + 1) n.roads))
-takes end v n h i sum r e so_far at =
-    let here : least_at end v r ≡ r.least = grind (arith, nat_tests)
-    in let more : sum + r.least ≡ sum_by (least_at end v) (take (i + 1) n.roads) = omega (arith, sum_more (least_at end v) n.roads i r e)
-    in (omega (arith, leasts_low end v n h, sum_by-take-le (least_at end v) n.roads (i + 1)), more)
-
--- one that does not
-pub passes : (end : Road → ℕ) (v : ℕ) (n : Net) (i sum : ℕ) (r : Road) → Some r ≡ slice_get n.roads i → sum ≡ sum_by (least_at end v) (take i n.roads) → (end r ≡ v → ⊥)
-    → sum ≡ sum_by (least_at end v) (take (i + 1) n.roads)
-passes end v n i sum r e so_far off =
-    let here : least_at end v r ≡ 0 = grind (arith, nat_tests)
-    in omega (arith, sum_more (least_at end v) n.roads i r e)
-
+-- what the leasts cost, with one road more
 cost_step : (cost : Road → ℤ) (rs : List Road) (i : ℕ) (r : Road) → Some r ≡ slice_get rs i → least_cost cost (take (suc i) rs) ≡ least_cost cost (take i rs) +ℤ (pos r.least *ℤ cost r)
-cost_step cost [] i r e = let z : ◌≡◌ {A = ℕ} 0 1 = cc in absurd (omega arith)
+cost_step cost [] i r e = cc
 cost_step cost (x ∷ rs) zero r e =
     let same : x ≡ r = cc
     in +ℤ_idr (pos x.least *ℤ cost x) ∙ ap (λ y. pos y.least *ℤ cost y) same ∙ sym (+ℤ_idl (pos r.least *ℤ cost r))
@@ -72,40 +55,16 @@ cost_step cost (x ∷ rs) (suc i) r e =
 pub cost_more : (cost : Road → ℤ) (rs : List Road) (i : ℕ) (r : Road) → Some r ≡ slice_get rs i → least_cost cost (take (i + 1) rs) ≡ least_cost cost (take i rs) +ℤ (pos r.least *ℤ cost r)
 cost_more cost rs i r e = simp add-one (cost_step cost rs i r e)
 
--- bounds by the laws
-
-pub leaving_low : (n : Net) → Lawful n → (v : ℕ) → leaving v n.roads ≤ max_arcs * max_most
-leaving_low n h v = leasts_low (λ r. r.tail) v n h
-
-pub arriving_low : (n : Net) → Lawful n → (v : ℕ) → arriving v n.roads ≤ max_arcs * max_most
-arriving_low n h v = leasts_low (λ r. r.head) v n h
+-- and its distance from zero
+pub cost_near : (cost : Road → ℤ) → ((r : Road) → cost (lowered r) ≡ cost r) → (rs : List Road) → AllByRecursion Passable rs → (k : ℕ) → k + reach_of cost rs ≤ max_reach → (i : ℕ) → nat_abs (least_cost cost (take i rs)) ≤ max_reach
+cost_near cost same rs h k bound i = omega (arith, cost_share cost same (take i rs) (All-take Passable i rs h), sum_by-take-le (span cost) rs i)
 
 pub stock_near : (n : Net) → Lawful n → (v : ℕ) (b : ℤ) → Some b ≡ slice_get n.stocks v → nat_abs b ≤ max_node
 stock_near n h v b e = omega (arith, h.node v (slice_get_within n.stocks v b (sym e)), ap nat_abs (get_or_from_slice_get n.stocks v b (pos 0) (sym e)))
 
-pub room : (n : Net) → Lawful n → (i : ℕ) (r : Road) → Some r ≡ slice_get n.roads i → r.least ≤ r.most
-room n h i r e =
-    let p = All-get_or Passable n.roads i r (slice_get_within n.roads i r (sym e)) h.passable
-    in omega (arith, p.room, ap (λ x. x.least) (get_or_from_slice_get n.roads i r r (sym e)), ap (λ x. x.most) (get_or_from_slice_get n.roads i r r (sym e)))
-
--- the distances from zero of the costs of the first roads' leasts
-pub first_near : (n : Net) → Lawful n → (i : ℕ) → nat_abs (least_cost (λ r. r.first) (take i n.roads)) ≤ max_reach
-first_near n h i = omega (arith, h.first, cost_share (λ r. r.first) (λ r. refl) (take i n.roads) (All-take Passable i n.roads h.passable), sum_by-take-le (span (λ r. r.first)) n.roads i)
-
-pub second_near : (n : Net) → Lawful n → (i : ℕ) → nat_abs (least_cost (λ r. r.second) (take i n.roads)) ≤ max_reach
-second_near n h i = omega (arith, h.second, cost_share (λ r. r.second) (λ r. refl) (take i n.roads) (All-take Passable i n.roads h.passable), sum_by-take-le (span (λ r. r.second)) n.roads i)
-
--- one road more, added in 64 bits
-pub cost_kept : (cost : Road → ℤ) (rs : List Road) (i : ℕ) (r : Road) → Some r ≡ slice_get rs i → (a z : ℤ) → a ≡ least_cost cost (take i rs) → SFits w64 z → SFits w32 (cost r)
-    → z ≡ pos r.least *ℤ to_z w32 (of_z w32 (cost r)) → nat_abs (least_cost cost (take (i + 1) rs)) ≤ max_reach → Kept (a +ℤ to_z w64 (of_z w64 z)) (least_cost cost (take (i + 1) rs))
-cost_kept cost rs i r e a z so_far fz fc ez near =
-    let more = cost_more cost rs i r e
-    in let k = sum_kept a (to_z w64 (of_z w64 z)) (least_cost cost (take i rs)) (pos r.least *ℤ cost r) so_far (read z _ fz (ez ∙ ap (λ y. pos r.least *ℤ y) (to_z-of_z w32 (cost r) fc))) (omega (arith, ap nat_abs more))
-    in (k.0, k.1 ∙ sym more)
-
--- a fixed cost and what the leasts cost, added in 64 bits
-pub fixed_kept : (a b x y : ℤ) → SFits w64 a → SFits w64 b → a ≡ x → b ≡ y → nat_abs (x +ℤ y) ≤ max_reach → Kept (to_z w64 (of_z w64 a) +ℤ to_z w64 (of_z w64 b)) (x +ℤ y)
-fixed_kept a b x y fa fb ea eb near = sum_kept _ _ x y (read a x fa ea) (read b y fb eb) near
+-- both costs of the leasts, said of the network as it came
+pub costs_of : (n m : Net) (p : ℤ × ℤ) → p ≡ (least_cost (λ r. r.first) m.roads, least_cost (λ r. r.second) m.roads) → m ≡ n → (p.0 ≡ least_cost (λ r. r.first) n.roads) × (p.1 ≡ least_cost (λ r. r.second) n.roads)
+costs_of n m p e same = (ap (λ q. q.0) e ∙ ap (λ k. least_cost (λ r. r.first) k.roads) same, ap (λ q. q.1) e ∙ ap (λ k. least_cost (λ r. r.second) k.roads) same)
 
 -- the size of the network without its leasts
 pub size_is : (n : Net) (s : Size) (x y : ℤ) → s ≡ size_of n → x ≡ (floored n).fixed.0 → y ≡ (floored n).fixed.1
@@ -114,14 +73,3 @@ size_is n s x y e ex ey =
     let nodes = ap (λ t. t.nodes) e ∙ sym (length_left n.roads 0 n.stocks)
     in let arcs = ap (λ t. t.arcs) e ∙ sym (length-map n.roads lowered)
     in λ i. record { nodes = nodes i; arcs = arcs i; fixed = (ex i, ey i) }
-
--- a node's stock less what has left, in 64 bits
-pub less_of : (n : Net) → Lawful n → (v : ℕ) (b out : ℤ) → Some b ≡ slice_get n.stocks v → SFits w64 b → SFits w64 out → out ≡ pos (leaving v n.roads)
-    → Kept (to_z w64 (of_z w64 b) -ℤ to_z w64 (of_z w64 out)) (b -ℤ pos (leaving v n.roads))
-less_of n h v b out e fb fo eo = less_kept _ _ b (leaving v n.roads) (to_z-of_z w64 b fb) (read out _ fo eo) (stock_near n h v b e) (leaving_low n h v)
-
--- and with what has arrived
-pub left_of : (n : Net) → Lawful n → (v : ℕ) (b less back : ℤ) → Some b ≡ slice_get n.stocks v → less ≡ b -ℤ pos (leaving v n.roads) → SFits w64 back → back ≡ pos (arriving v n.roads)
-    → Kept (less +ℤ to_z w64 (of_z w64 back)) (stock_left n.roads v b)
-left_of n h v b less back e el fb eb =
-    left_kept less _ b (leaving v n.roads) (arriving v n.roads) el (read back _ fb eb) (stock_near n h v b e) (leaving_low n h v) (arriving_low n h v)

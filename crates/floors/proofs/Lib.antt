@@ -1,2 +1,1 @@
 pub mod Leasts
-pub mod Near

@@ -39,20 +39,15 @@ impl<N: Network> Network for Floor<N> {
     }
 
     fn stock(&mut self, node: usize) -> Option<i64> {
-        match self.below.stock(node) {
-            Some(stock) => Some(stock_left(&mut self.below, node, stock)),
-            None => None,
-        }
+        let stock = self.below.stock(node)?;
+        Some(stock_left(&mut self.below, node, stock))
     }
 
     fn arc(&mut self, arc: usize) -> Option<Road> {
-        match self.below.arc(arc) {
-            Some(road) => Some(Road {
-                least: 0,
-                most: road.most - road.least,
-                ..road
-            }),
-            None => None,
-        }
+        self.below.arc(arc).map(|road| Road {
+            least: 0,
+            most: road.most - road.least,
+            ..road
+        })
     }
 }

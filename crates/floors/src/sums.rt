@@ -1,11 +1,12 @@
 // Sums over the leasts of a network. Its laws keep each of them in range.
 ghost use Rattle.std.specs.Prelude.{◌≡◌, ◌<◌, pos, ◌*ℤ◌, Some};
 ghost use Rattle.std.specs.List.{slice_get};
-ghost use Rattle.network.specs.Floored.{leaving, arriving, stock_left, least_cost};
+ghost use Rattle.network.specs.Floored.{stock_left, least_cost};
 ghost use Rattle.network.specs.Net.{arc_count};
+ghost use Rattle.floors.specs.Leasts.{leasts_at};
 
 use network::interface::Network;
-use network::road::Road;
+use network::road::{End, Road};
 
 // What the leasts cost, by the first and by the second cost.
 pub fn least_costs<N: Network>(network: &mut N, arcs: usize) -> (i64, i64)
@@ -15,6 +16,7 @@ pub fn least_costs<N: Network>(network: &mut N, arcs: usize) -> (i64, i64)
 {
     let mut first = 0;
     let mut second = 0;
+    // kept: `sum` or `fold` over a closure that asks the network leaves the clause `same` open, since nothing is known of what it borrowed
     for i in 0..arcs {
         let road = road_of(network, i);
         first += cost_of(road.least, road.first);
@@ -30,37 +32,23 @@ pub fn stock_left<N: Network>(network: &mut N, node: usize, stock: i64) -> i64
     ensures same { N.Network.meaning network.new ≡ N.Network.meaning network.old }
 {
     let arcs = network.size().arcs;
-    let gone = least_leaving(network, arcs, node);
-    let come = least_arriving(network, arcs, node);
+    let gone = leasts_at(network, arcs, End::Tail, node);
+    let come = leasts_at(network, arcs, End::Head, node);
     stock - i64::from(gone) + i64::from(come)
 }
 
-// The leasts of the arcs that leave the node.
-fn least_leaving<N: Network>(network: &mut N, arcs: usize, node: usize) -> u32
+// The leasts of the arcs that have the node at this end.
+fn leasts_at<N: Network>(network: &mut N, arcs: usize, end: End, node: usize) -> u32
     requires { arcs ≡ arc_count (N.Network.meaning network.old) }
-    ensures value { result ≡ leaving node (N.Network.meaning network.old).roads }
+    ensures value { result ≡ leasts_at end node (N.Network.meaning network.old).roads }
     ensures same { N.Network.meaning network.new ≡ N.Network.meaning network.old }
 {
     let mut sum = 0;
+    // kept: `sum` or `fold` over a closure that asks the network leaves the clause `same` open, since nothing is known of what it borrowed
     for i in 0..arcs {
         let road = road_of(network, i);
-        if road.tail as usize == node {
-            sum += road.least;
-        }
-    }
-    sum
-}
-
-// The leasts of the arcs that arrive at the node.
-fn least_arriving<N: Network>(network: &mut N, arcs: usize, node: usize) -> u32
-    requires { arcs ≡ arc_count (N.Network.meaning network.old) }
-    ensures value { result ≡ arriving node (N.Network.meaning network.old).roads }
-    ensures same { N.Network.meaning network.new ≡ N.Network.meaning network.old }
-{
-    let mut sum = 0;
-    for i in 0..arcs {
-        let road = road_of(network, i);
-        if road.head as usize == node {
+        // kept: `usize` has no `From<u32>`, so the end is cast
+        if road.end_node(end) as usize == node {
             sum += road.least;
         }
     }
@@ -73,10 +61,7 @@ fn road_of<N: Network>(network: &mut N, arc: usize) -> Road
     ensures value { Some result ≡ slice_get (N.Network.meaning network.old).roads arc }
     ensures same { N.Network.meaning network.new ≡ N.Network.meaning network.old }
 {
-    match network.arc(arc) {
-        Some(road) => road,
-        None => unreachable(),
-    }
+    network.arc(arc).unwrap()
 }
 
 // What so many chests cost.

@@ -1,9 +1,10 @@
 // The arcs of a grid, by their numbers.
 ghost use Rattle.std.specs.Prelude.{◌≡◌, ◌*◌, ◌<◌};
-ghost use Rattle.network.specs.Gridded.{node_at, grid_road, right_count, down_count, right_road, down_road};
-ghost use Rattle.network.specs.Limits.{max_side};
+ghost use Rattle.network.specs.Gridded.{node_at, grid_road, grid_arcs};
+ghost use Rattle.grids.specs.Ways.{way_width, way_step, way_count, way_road};
 
 use crate::grid::Grid;
+use crate::way::{Spot, Way};
 use network::road::Road;
 
 // Mosts go from 1 to this.
@@ -21,70 +22,76 @@ impl Grid {
         self.rows * self.columns
     }
 
-    /// How many arcs go to the right. Theirs are the first numbers.
-    pub(crate) fn right_count(&self) -> u32
-        ensures { result ≡ right_count self.now.rows self.now.columns }
+    /// How many arcs there are.
+    pub(crate) fn arc_count(&self) -> u32
+        ensures { result ≡ grid_arcs self.now.rows self.now.columns }
     {
-        self.rows * (self.columns - 1)
+        self.way_count(Way::Right) + self.way_count(Way::Down)
     }
 
-    /// How many arcs go down.
-    pub(crate) fn down_count(&self) -> u32
-        ensures { result ≡ down_count self.now.rows self.now.columns }
+    /// How many arcs go this way.
+    pub(crate) fn way_count(&self, way: Way) -> u32
+        ensures { result ≡ way_count way self.now.rows self.now.columns }
     {
-        (self.rows - 1) * self.columns
+        match way {
+            Way::Right => self.rows * (self.columns - 1),
+            Way::Down => (self.rows - 1) * self.columns,
+        }
     }
 
-    /// The road to the right that has this number.
-    pub(crate) fn right_road(&self, number: u32) -> Road
-        requires { number < right_count self.now.rows self.now.columns }
-        ensures { result ≡ right_road self.now.columns number }
+    /// The road that goes this way and has this number among those.
+    pub(crate) fn road(&self, way: Way, number: u32) -> Road
+        requires { number < way_count way self.now.rows self.now.columns }
+        ensures { result ≡ way_road way self.now.columns number }
     {
-        let width = self.columns - 1;
-        let row = number / width;
-        let column = number % width;
-        road_from(
-            row,
-            column,
-            self.node_at(row, column),
-            self.node_at(row, column + 1),
-        )
+        let width = self.width(way);
+        let from = Spot {
+            row: number / width,
+            column: number % width,
+        };
+        let tail = self.node_at(from);
+        road_from(from, tail, tail + self.step(way))
     }
 
-    /// The road down that has this number among those.
-    pub(crate) fn down_road(&self, number: u32) -> Road
-        requires { number < down_count self.now.rows self.now.columns }
-        ensures { result ≡ down_road self.now.columns number }
+    // How many arcs of a row go this way.
+    fn width(&self, way: Way) -> u32
+        ensures { result ≡ way_width way self.now.columns }
     {
-        let row = number / self.columns;
-        let column = number % self.columns;
-        road_from(
-            row,
-            column,
-            self.node_at(row, column),
-            self.node_at(row + 1, column),
-        )
+        match way {
+            Way::Right => self.columns - 1,
+            Way::Down => self.columns,
+        }
     }
 
-    // The node of a row and a column.
-    fn node_at(&self, row: u32, column: u32) -> u32
-        requires { (row < max_side) × (column < max_side) }
-        ensures { result ≡ node_at self.now.columns row column }
+    // How far on the next node this way stands.
+    fn step(&self, way: Way) -> u32
+        ensures { result ≡ way_step way self.now.columns }
     {
-        row * self.columns + column
+        match way {
+            Way::Right => 1,
+            Way::Down => self.columns,
+        }
+    }
+
+    // The node of a place.
+    fn node_at(&self, spot: Spot) -> u32
+        ensures { result ≡ node_at self.now.columns spot.row spot.column }
+    {
+        spot.row * self.columns + spot.column
     }
 }
 
-// A road from the node of a row and a column, between these nodes.
-fn road_from(row: u32, column: u32, tail: u32, head: u32) -> Road
-    requires { (row < max_side) × (column < max_side) }
-    ensures { result ≡ grid_road row column tail head }
+// A road from a place, between these nodes.
+fn road_from(spot: Spot, tail: u32, head: u32) -> Road
+    ensures { result ≡ grid_road spot.row spot.column tail head }
 {
+    let Spot { row, column } = spot;
     Road {
         tail,
         head,
         least: 0,
         most: 1 + (row + 2 * column) % MOSTS,
+        // kept: `i32` has no `From<u32>`, and both casts are of numbers below `COSTS`
         first: ((3 * row + column) % COSTS) as i32,
         second: ((5 * row + 2 * column) % COSTS) as i32 - BELOW,
     }

@@ -1,9 +1,10 @@
 // A grid as a network.
-ghost use Rattle.std.specs.Prelude.{◌≡◌, ◌*◌, ◌<◌};
-ghost use Rattle.network.specs.Gridded.{grid_stock, gridded};
+ghost use Rattle.std.specs.Prelude.{◌≡◌, ◌*◌, ◌<◌, SomeIff};
+ghost use Rattle.network.specs.Gridded.{grid_arcs, grid_arc, grid_stock, gridded};
 ghost use Rattle.network.proofs.Gridded.{gridded_lawful};
 
 use crate::grid::Grid;
+use crate::way::Way;
 use network::interface::Network;
 use network::road::Road;
 use network::size::Size;
@@ -13,47 +14,54 @@ impl Network for Grid {
 
     ghost laws = { λ s. gridded_lawful s.rows s.columns s.chests s.tall s.wide s.few };
 
+    // kept: `usize` has no `From<u32>`, so both counts are cast
     fn size(&mut self) -> Size {
         Size {
             nodes: self.node_count() as usize,
-            arcs: (self.right_count() + self.down_count()) as usize,
+            arcs: self.arc_count() as usize,
             fixed: (0, 0),
         }
     }
 
     fn stock(&mut self, node: usize) -> Option<i64> {
-        if node < self.node_count() as usize {
-            Some(self.stock_of(node))
-        } else {
-            None
-        }
+        below(node, self.node_count()).map(|node| self.stock_of(node))
     }
 
     fn arc(&mut self, arc: usize) -> Option<Road> {
-        let rights = self.right_count() as usize;
-        let arcs = rights + self.down_count() as usize;
-        if arc < rights {
-            Some(self.right_road(arc as u32))
-        } else if arc < arcs {
-            Some(self.down_road((arc - rights) as u32))
-        } else {
-            None
-        }
+        below(arc, self.arc_count()).map(|arc| self.road_of(arc))
     }
 }
 
 impl Grid {
     // The stock of a node of the grid: the first offers all chests, and the last wants them.
-    fn stock_of(&self, node: usize) -> i64
+    fn stock_of(&self, node: u32) -> i64
         requires { node < self.now.rows * self.now.columns }
         ensures { result ≡ grid_stock (self.now.rows * self.now.columns) self.now.chests node }
     {
         let offers = if node == 0 { self.chests } else { 0 };
-        let wants = if node + 1 == self.node_count() as usize {
+        let wants = if node + 1 == self.node_count() {
             self.chests
         } else {
             0
         };
-        offers as i64 - wants as i64
+        i64::from(offers) - i64::from(wants)
     }
+
+    // The road of an arc of the grid: those to the right come first.
+    fn road_of(&self, arc: u32) -> Road
+        requires { arc < grid_arcs self.now.rows self.now.columns }
+        ensures { result ≡ grid_arc self.now.rows self.now.columns arc }
+    {
+        match arc.checked_sub(self.way_count(Way::Right)) {
+            None => self.road(Way::Right, arc),
+            Some(number) => self.road(Way::Down, number),
+        }
+    }
+}
+
+// The number, where it is below the count.
+fn below(number: usize, count: u32) -> Option<u32>
+    ensures { SomeIff result (number < count) number }
+{
+    u32::try_from(number).ok().filter(|number| *number < count)
 }

@@ -7,3 +7,4 @@ pub mod grid;
 mod made;
 #[cfg(test)]
 mod tests;
+mod way;

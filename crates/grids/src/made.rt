@@ -35,5 +35,5 @@ impl Grid {
 fn is_side(count: u32) -> bool
     ensures { Decides result (Side count) }
 {
-    1 <= count && count <= MAX_SIDE
+    (1..=MAX_SIDE).contains(&count)
 }

@@ -30,7 +30,12 @@ impl<N: Network> Network for Exchange<N> {
     ghost laws = { λ s. exchanged_lawful (N.Network.meaning s.below) (N.Network.laws s.below) };
 
     fn size(&mut self) -> Size {
-        turned(self.below.size())
+        let size = self.below.size();
+        let (first, second) = size.fixed;
+        Size {
+            fixed: (second, first),
+            ..size
+        }
     }
 
     fn stock(&mut self, node: usize) -> Option<i64> {
@@ -38,10 +43,7 @@ impl<N: Network> Network for Exchange<N> {
     }
 
     fn arc(&mut self, arc: usize) -> Option<Road> {
-        match self.below.arc(arc) {
-            Some(road) => Some(exchange_costs(road)),
-            None => None,
-        }
+        self.below.arc(arc).map(exchange_costs)
     }
 }
 
@@ -55,18 +57,8 @@ fn exchange_costs(road: Road) -> Road
     }
 }
 
-// The size with both fixed costs exchanged.
-fn turned(size: Size) -> Size
-    ensures { result ≡ record { nodes = size.nodes; arcs = size.arcs; fixed = (size.fixed.1, size.fixed.0) } }
-{
-    let (first, second) = size.fixed;
-    Size {
-        fixed: (second, first),
-        ..size
-    }
-}
-
 /// Exchanging twice means the network below.
+#[tactic(auto, using(network::proofs::Exchanged::exchanged_twice))]
 pub fn exchange_twice_stands()
     ensures { (n : Net) → exchanged (exchanged n) ≡ n }
 {}

@@ -1,7 +1,8 @@
 // A table of roads and stocks. Kept apart from the functions that speak of it in their contracts.
 ghost use Rattle.std.specs.Prelude.{◌≡◌};
-ghost use Rattle.network.specs.Tested.{passed, row_fault};
+ghost use Rattle.network.specs.Tested.{row_fault};
 
+use network::refusal::Refusal;
 use network::road::Road;
 
 /// A network over rows of the caller's: a road for each arc, a stock for each node, fixed costs 0.
@@ -10,7 +11,7 @@ use network::road::Road;
 pub struct Table<'a> {
     pub(crate) roads: &'a [Road],
     pub(crate) stocks: &'a [i32],
-    /// Whether the rows pass the test.
-    pub(crate) good: bool,
-    ghost tested: { good ≡ passed (row_fault roads.now stocks.now) },
+    /// Why the test refuses the rows, where it does.
+    pub(crate) fault: Option<Refusal>,
+    ghost tested: { fault ≡ row_fault roads.now stocks.now },
 }

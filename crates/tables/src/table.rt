@@ -1,13 +1,14 @@
 // A table is a network.
 ghost use Rattle.std.specs.Prelude.{◌≡◌};
-ghost use Rattle.std.specs.List.{slice_get};
-ghost use Rattle.network.specs.Net.{size_of};
+ghost use Rattle.std.proofs.Common.{ap};
+ghost use Rattle.network.specs.Net.{size_of, rows_net};
 ghost use Rattle.network.specs.Tested.{table_net, passed, row_fault};
 ghost use Rattle.network.proofs.Tested.{table_lawful};
 
 use crate::held::Table;
 use crate::test::row_fault;
 use network::interface::Network;
+use network::refusal::Refusal;
 use network::road::Road;
 use network::size::Size;
 
@@ -15,69 +16,55 @@ impl<'a> Table<'a> {
     /// The table over these rows.
     pub fn over(roads: &'a [Road], stocks: &'a [i32]) -> Table<'a>
         ensures rows { (result.roads.now ≡ roads.now) × (result.stocks.now ≡ stocks.now) }
-        ensures good { result.good ≡ passed (row_fault roads.now stocks.now) }
+        ensures fault { result.fault ≡ row_fault roads.now stocks.now }
     {
-        let good = row_fault(roads, stocks).is_none();
+        let fault = row_fault(roads, stocks);
         Table {
             roads,
             stocks,
-            good,
+            fault,
+        }
+    }
+
+    /// Why the test refuses the rows, where it does.
+    pub fn fault(&self) -> Option<Refusal>
+        ensures { result ≡ row_fault self.now.roads.now self.now.stocks.now }
+    {
+        self.fault
+    }
+
+    // The rows that the table means: where the caller's are at fault, one node with stock 0 and no arcs.
+    fn rows(&self) -> (&'a [Road], &'a [i32])
+        ensures { table_net (passed self.now.fault) self.now.roads.now self.now.stocks.now ≡ rows_net result.0.now result.1.now }
+    {
+        match self.fault {
+            None => (self.roads, self.stocks),
+            Some(_) => (&[], &[0]),
         }
     }
 }
 
 impl<'a> Network for Table<'a> {
-    ghost meaning = { λ s. table_net s.good s.roads.now s.stocks.now };
+    ghost meaning = { λ s. table_net (passed s.fault) s.roads.now s.stocks.now };
 
-    ghost laws = { λ s. table_lawful s.good s.roads.now s.stocks.now s.tested };
+    ghost laws = { λ s. table_lawful (passed s.fault) s.roads.now s.stocks.now (ap passed s.tested) };
 
     fn size(&mut self) -> Size {
-        if self.good {
-            Size {
-                nodes: self.stocks.len(),
-                arcs: self.roads.len(),
-                fixed: (0, 0),
-            }
-        } else {
-            Size {
-                nodes: 1,
-                arcs: 0,
-                fixed: (0, 0),
-            }
+        let (roads, stocks) = self.rows();
+        Size {
+            nodes: stocks.len(),
+            arcs: roads.len(),
+            fixed: (0, 0),
         }
     }
 
     fn stock(&mut self, node: usize) -> Option<i64> {
-        if self.good {
-            wide(entry(self.stocks, node))
-        } else if node == 0 {
-            Some(0)
-        } else {
-            None
-        }
+        let (_, stocks) = self.rows();
+        stocks.get(node).copied().map(i64::from)
     }
 
     fn arc(&mut self, arc: usize) -> Option<Road> {
-        if self.good {
-            entry(self.roads, arc)
-        } else {
-            None
-        }
-    }
-}
-
-// What stands at a place of a row, if there is such a place.
-fn entry<T: Copy>(row: &[T], i: usize) -> Option<T>
-    ensures { result ≡ slice_get row.now i }
-{
-    if i < row.len() { Some(row[i]) } else { None }
-}
-
-fn wide(stock: Option<i32>) -> Option<i64>
-    ensures { result ≡ stock }
-{
-    match stock {
-        Some(b) => Some(i64::from(b)),
-        None => None,
+        let (roads, _) = self.rows();
+        roads.get(arc).copied()
     }
 }

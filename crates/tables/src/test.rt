@@ -1,5 +1,5 @@
 // The test of rows.
-ghost use Rattle.std.specs.Prelude.{◌≡◌, ℕ, ◌^◌, ◌<◌, length, Some, None};
+ghost use Rattle.std.specs.Prelude.{◌≡◌, ℕ, List, [], ◌∷◌};
 ghost use Rattle.network.specs.Tested.{is_near, is_joined, is_bounded, is_costed, is_ranged, is_passable, is_sized, stock_fault, road_fault, row_fault};
 
 use network::limits::{MAX_ARCS, MAX_COST, MAX_MOST, MAX_NODES, MAX_STOCK};
@@ -12,79 +12,77 @@ use network::road::Road;
 pub fn row_fault(roads: &[Road], stocks: &[i32]) -> Option<Refusal>
     ensures { result ≡ row_fault roads.now stocks.now }
 {
-    if !sized(roads, stocks) {
+    if !is_sized(roads, stocks) {
         return Some(Refusal::Number(0));
     }
-    match stock_fault(stocks) {
-        Some(fault) => Some(fault),
-        None => road_fault(roads, stocks.len()),
-    }
+    stock_fault(stocks).or_else(|| road_fault(roads, stocks.len()))
 }
 
-fn sized(roads: &[Road], stocks: &[i32]) -> bool
+fn is_sized(roads: &[Road], stocks: &[i32]) -> bool
     ensures { result ≡ is_sized roads.now stocks.now }
 {
-    !stocks.is_empty() && stocks.len() <= MAX_NODES && roads.len() <= MAX_ARCS
+    (1..=MAX_NODES).contains(&stocks.len()) && roads.len() <= MAX_ARCS
 }
 
 fn stock_fault(stocks: &[i32]) -> Option<Refusal>
     ensures { result ≡ stock_fault 0 stocks.now }
 {
-    for (i, stock) in stocks.iter().enumerate() {
-        if !near(*stock, MAX_STOCK) {
-            return Some(Refusal::Number(i));
-        }
-    }
-    None
+    stocks
+        .iter()
+        .position(|stock| !is_near(stock, MAX_STOCK))
+        .map(Refusal::Number)
 }
 
 fn road_fault(roads: &[Road], nodes: usize) -> Option<Refusal>
     ensures { result ≡ road_fault nodes 0 roads.now }
 {
-    for (i, road) in roads.iter().enumerate() {
-        if !ranged(*road, nodes) {
-            return Some(Refusal::Number(i));
-        }
-        if !passable(*road) {
-            return Some(Refusal::Impassable(i));
-        }
+    roads
+        .iter()
+        .enumerate()
+        .find_map(|(i, road)| fault_at(i, road, nodes))
+}
+
+// The fault of the road of record `i`.
+fn fault_at(i: usize, road: &Road, nodes: usize) -> Option<Refusal>
+    ensures { result ≡ road_fault nodes i (road.now ∷ []) }
+{
+    if !is_ranged(road, nodes) {
+        Some(Refusal::Number(i))
+    } else if !road.is_passable() {
+        Some(Refusal::Impassable(i))
+    } else {
+        None
     }
-    None
 }
 
-fn near(value: i32, far: u32) -> bool
-    requires { far < 2 ^ 31 }
-    ensures { result ≡ is_near far value }
+// Whether a number is at most so far from zero.
+fn is_near(value: &i32, far: u32) -> bool
+    ensures { result ≡ is_near far value.now }
 {
-    -(far as i32) <= value && value <= far as i32
+    value.unsigned_abs() <= far
 }
 
-fn ranged(road: Road, nodes: usize) -> bool
-    ensures { result ≡ is_ranged nodes road }
+fn is_ranged(road: &Road, nodes: usize) -> bool
+    ensures { result ≡ is_ranged nodes road.now }
 {
-    joined(road, nodes) && bounded(road) && costed(road)
+    is_joined(road, nodes) && is_bounded(road) && is_costed(road)
 }
 
-fn joined(road: Road, nodes: usize) -> bool
-    ensures { result ≡ is_joined nodes road }
+// kept: `usize` has no `From<u32>`, so a node is cast where it is compared with a length.
+fn is_joined(road: &Road, nodes: usize) -> bool
+    ensures { result ≡ is_joined nodes road.now }
 {
     (road.tail as usize) < nodes && (road.head as usize) < nodes
 }
 
-fn bounded(road: Road) -> bool
-    ensures { result ≡ is_bounded road }
+fn is_bounded(road: &Road) -> bool
+    ensures { result ≡ is_bounded road.now }
 {
     road.least <= MAX_MOST && road.most <= MAX_MOST
 }
 
-fn costed(road: Road) -> bool
-    ensures { result ≡ is_costed road }
+fn is_costed(road: &Road) -> bool
+    ensures { result ≡ is_costed road.now }
 {
-    near(road.first, MAX_COST) && near(road.second, MAX_COST)
-}
-
-fn passable(road: Road) -> bool
-    ensures { result ≡ is_passable road }
-{
-    road.tail != road.head && road.least <= road.most
+    is_near(&road.first, MAX_COST) && is_near(&road.second, MAX_COST)
 }

@@ -1,30 +1,35 @@
-use Rattle.std.proofs.Common.{pos, ◌+ℤ◌, ◌-ℤ◌, ap, ◌∙◌, w64, to_z, of_z}
-use Rattle.network.specs.Floored.{leaving, arriving, stock_left}
-use Rattle.floors.proofs.Leasts.{less_of, left_of}
-use Rattle.floors.proofs.Near.{Kept}
+use Rattle.std.proofs.Common.{◌≡◌, ◌∙◌, ap, arith}
+use Rattle.std.proofs.lemmas.Int.{ints, to_z-of_z}
+use Rattle.network.specs.declared.road.End.TheVariants.{Tail, Head}
+use Rattle.floors.specs.Leasts.{leasts_at}
+use Rattle.floors.proofs.Leasts.{stock_near, leasts_low}
 use Rattle.floors.proofs.sums.stock_left.Given as given
 use Rattle.floors.proofs.sums.stock_left.Goals as goal
 
-pub overflow_sub-result : goal.overflow_sub-result
-overflow_sub-result g c =
-    let n = g.N.Network.meaning c.args.network.now
-    in let gone = c.least_leaving-gone.ensures.value ∙ ap (λ m. leaving c.args.node m.roads) c.size-arcs.ensures.same
-    in (less_of n (g.N.Network.laws c.args.network.now) c.args.node c.args.stock c.from.result c.requires c.ranges.stock record { sfits = c.from.type_inv } (c.from.ensures ∙ ap pos gone)).0
-
--- the sum, with what has left said of the network as it came, and so what has arrived
-total : (g : given.Over) (c : goal.After-from-2 g)
-    → Kept (to_z w64 (of_z w64 (to_z w64 (of_z w64 c.args.stock) -ℤ to_z w64 (of_z w64 c.from.result))) +ℤ to_z w64 (of_z w64 c.from-2.result))
-    (stock_left (g.N.Network.meaning c.args.network.now).roads c.args.node c.args.stock)
-total g c =
-    let n = g.N.Network.meaning c.args.network.now
-    in let h = g.N.Network.laws c.args.network.now
-    in let gone = c.least_leaving-gone.ensures.value ∙ ap (λ m. leaving c.args.node m.roads) c.size-arcs.ensures.same
-    in let come = c.least_arriving-come.ensures.value ∙ ap (λ m. arriving c.args.node m.roads) (c.least_leaving-gone.ensures.same ∙ c.size-arcs.ensures.same)
-    in let less = less_of n h c.args.node c.args.stock c.from.result c.requires c.ranges.stock record { sfits = c.from.type_inv } (c.from.ensures ∙ ap pos gone)
-    in left_of n h c.args.node c.args.stock _ c.from-2.result c.requires less.1 record { sfits = c.from-2.type_inv } (c.from-2.ensures ∙ ap pos come)
+-- what leaves and what arrives, said of the network as it came
+moved : (g : given.Over) (c : goal.After-from-2 g)
+    → (c.leasts_at-gone.result ≡ leasts_at Tail c.args.node (g.N.Network.meaning c.args.network.now).roads) × (c.leasts_at-come.result ≡ leasts_at Head c.args.node (g.N.Network.meaning c.args.network.now).roads)
+moved g c = (
+  c.leasts_at-gone.ensures.value ∙ ap (λ m. leasts_at Tail c.args.node m.roads) c.size-arcs.ensures.same,
+  c.leasts_at-come.ensures.value ∙ ap (λ m. leasts_at Head c.args.node m.roads) (c.leasts_at-gone.ensures.same ∙ c.size-arcs.ensures.same),
+)
 
 pub overflow_add-result : goal.overflow_add-result
-overflow_add-result g c = (total g c).0
+overflow_add-result g c =
+    let n = g.N.Network.meaning c.args.network.now
+    in let h = g.N.Network.laws c.args.network.now
+    in let parts = moved g c
+    in let near = stock_near n h c.args.node c.args.stock c.requires
+    in let out = leasts_low Tail c.args.node n h
+    in let back = leasts_low Head c.args.node n h
+    in grind (arith, ints, to_z-of_z)
 
-pub returns : goal.returns
-returns g c = record { value = (total g c).1; same = c.least_arriving-come.ensures.same ∙ c.least_leaving-gone.ensures.same ∙ c.size-arcs.ensures.same }
+pub returns-clause-value : goal.returns-clause-value
+returns-clause-value g c =
+    let n = g.N.Network.meaning c.args.network.now
+    in let h = g.N.Network.laws c.args.network.now
+    in let parts = moved g c
+    in let near = stock_near n h c.args.node c.args.stock c.requires
+    in let out = leasts_low Tail c.args.node n h
+    in let back = leasts_low Head c.args.node n h
+    in grind (arith, ints, to_z-of_z)

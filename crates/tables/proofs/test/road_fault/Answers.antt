@@ -1,14 +1,15 @@
-use Rattle.tables.proofs.Faults.{range_here, pass_here, road_more, road_all}
+use Rattle.std.proofs.Common.{◌≡◌, subst, rules, tests}
+use Rattle.std.specs.Iterator.Runs.{ItemsMapTo}
+use Rattle.tables.proofs.Faults.{find_mapped}
 use Rattle.tables.proofs.test.road_fault.Goals as goal
 
-pub returns-then-not-ranged : goal.returns-then-not-ranged
-returns-then-not-ranged c = range_here c.args.nodes c.args.roads.now c.loop-i.i _ c.loop-i-test.true c.loop-i.invariant c.if-not-ranged.ensures
-
-pub returns-then-not-passable : goal.returns-then-not-passable
-returns-then-not-passable c = pass_here c.args.nodes c.args.roads.now c.loop-i.i _ c.loop-i-test.true c.loop-i.invariant c.if-not-ranged.ensures c.if-not-passable.ensures
-
-pub loop-i-preserved : goal.loop-i-preserved
-loop-i-preserved c = road_more c.args.nodes c.args.roads.now c.loop-i.i _ c.loop-i-test.true c.loop-i.invariant c.if-not-ranged.ensures c.if-not-passable.ensures
-
 pub returns : goal.returns
-returns c = road_all c.args.nodes c.args.roads.now c.loop-i.i c.loop-i-test.false c.loop-i.invariant
+returns c =
+    let found = c.find_map.ensures.runs in
+    let counted = c.enumerate.ensures.runs found.0 found.0.seen found.1 in
+    let source = counted.1.0 in
+    let all : source.from.rest.now ≡ c.args.roads.now = cc counted.1.1 in
+    find_mapped c.args.nodes c.args.roads.now found.0 source (λ x b q k. search (rules, tests)) counted.0 counted.1.2.0 counted.1.2.1
+    (subst (ItemsMapTo source (λ y. y.now)) all (c.iter.ensures.runs source source.seen))
+    c.find_map.result
+    found.2

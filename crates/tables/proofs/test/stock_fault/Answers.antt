@@ -1,19 +1,14 @@
-use Rattle.std.proofs.Common.{get_or, pos, ap, ◌∙◌, w32, SFits, rules}
-use Rattle.std.proofs.lemmas.Int.{to_z-of_z}
-use Rattle.network.specs.Limits.{max_stock}
-use Rattle.network.specs.Tested.{is_near}
-use Rattle.tables.proofs.Faults.{stock_here, stock_more, stock_all}
+use Rattle.std.proofs.Common.{◌≡◌, ap, ◌∙◌, rules, tests}
+use Rattle.std.specs.List.{position}
+use Rattle.std.specs.Option.{option_map}
+use Rattle.std.proofs.lemmas.Iterator.{YieldsList-from_slice}
+use Rattle.std.proofs.lemmas.Iterator.Search.{position_from_yields_List}
+use Rattle.network.specs.declared.refusal.Refusal.TheVariants.{Number}
+use Rattle.tables.proofs.Faults.{far, stock_first}
 use Rattle.tables.proofs.test.stock_fault.Goals as goal
 
-pub returns-then-not-near : goal.returns-then-not-near
-returns-then-not-near c =
-    let f : SFits w32 (get_or c.args.stocks.now c.loop-i.i (pos 0)) = search rules in
-    stock_here c.args.stocks.now c.loop-i.i c.loop-i-test.true c.loop-i.invariant (c.if-not-near.ensures ∙ ap (is_near max_stock) (to_z-of_z w32 (get_or c.args.stocks.now c.loop-i.i (pos 0)) f))
-
-pub loop-i-preserved : goal.loop-i-preserved
-loop-i-preserved c =
-    let f : SFits w32 (get_or c.args.stocks.now c.loop-i.i (pos 0)) = search rules in
-    stock_more c.args.stocks.now c.loop-i.i c.loop-i-test.true c.loop-i.invariant (c.if-not-near.ensures ∙ ap (is_near max_stock) (to_z-of_z w32 (get_or c.args.stocks.now c.loop-i.i (pos 0)) f))
-
 pub returns : goal.returns
-returns c = stock_all c.args.stocks.now c.loop-i.i c.loop-i-test.false c.loop-i.invariant
+returns c =
+    let first : c.position.result ≡ position far c.args.stocks.now = position_from_yields_List far _ _ c.position.result c.position.ensures.ran (YieldsList-from_slice c.args.stocks.now cc) (λ x b q k. search (rules, tests)) in
+    let named : c.map.result ≡ option_map Number c.position.result = search rules in
+    named ∙ ap (option_map Number) first ∙ stock_first c.args.stocks.now

@@ -1,18 +1,9 @@
-use Rattle.std.proofs.Common.{◌*◌, sym, refl, arith, w64, SFits, rules}
-use Rattle.std.proofs.lemmas.Int.{to_z-of_z}
+use Rattle.std.proofs.Common.{◌*◌, rules}
 use Rattle.network.specs.Gridded.{grid_stock}
-use Rattle.grids.proofs.Counts.{nth_counted, nth_over}
+use Rattle.grids.proofs.Counts.{counted}
 use Rattle.grids.proofs.asked.GridNetwork.stock.Goals as goal
 
-pub returns-then-node-node_count : goal.returns-then-node-node_count
-returns-then-node-node_count c =
+pub returns-clause-value : goal.returns-clause-value
+returns-clause-value c =
     let nodes = c.args.self.now.rows * c.args.self.now.columns in
-    let there = nth_counted (grid_stock nodes c.args.self.now.chests) nodes c.args.node (omega arith) in
-    let fits : SFits w64 c.stock_of.result = search rules in
-    let back = to_z-of_z w64 c.stock_of.result fits in
-    record { value = cc; same = refl }
-
-pub returns-else-node-node_count : goal.returns-else-node-node_count
-returns-else-node-node_count c =
-    let nodes = c.args.self.now.rows * c.args.self.now.columns in
-    record { value = sym (nth_over (grid_stock nodes c.args.self.now.chests) nodes c.args.node (omega arith)); same = refl }
+    counted (grid_stock nodes c.args.self.now.chests) nodes c.node_count.result c.args.node c.below.result c.map.result _ c.node_count.ensures c.below.ensures c.map.ensures.cases (λ j x same below made. search rules)
