@@ -5,9 +5,10 @@ mod counted;
 
 use account::asked::account_of_network;
 use account::lines::account_lines;
-use anyhow::anyhow;
+use anyhow::{anyhow, ensure};
 use caps::layer::Cap;
-use caps::table::CapTable;
+use caps::places::CapEntry;
+use caps::table::{AddError, CapTable};
 use counted::Counted;
 use floors::floor::Floor;
 use grids::grid::Grid;
@@ -91,21 +92,21 @@ fn table() -> Table<'static> {
 fn capped(rt: &HostRuntime) -> anyhow::Result<Cap<Table<'static>>> {
     let mut cap = Cap::new(table(), CapTable::new(rt.alloc())?);
     let set = cap.cap(1, 1).is_ok() && cap.cap(2, 0).is_ok() && cap.cap(2, 4).is_ok();
-    if set && cap.cap(3, 0).is_err() {
-        Ok(cap)
-    } else {
-        Err(anyhow!("another cap"))
-    }
+    ensure!(set && cap.cap(3, 0).is_err(), "another cap");
+    Ok(cap)
 }
 
 // Caps that name no arc, or more than the arc may carry.
 fn idle_caps(rt: &HostRuntime) -> anyhow::Result<CapTable> {
     let mut table = CapTable::new(rt.alloc())?;
-    if table.add(9, 0) && table.add(0, 3) && !table.add(9, 1) {
-        Ok(table)
-    } else {
-        Err(anyhow!("another table"))
-    }
+    let first = table.add(CapEntry { arc: 9, amount: 0 });
+    let second = table.add(CapEntry { arc: 0, amount: 3 });
+    let third = table.add(CapEntry { arc: 9, amount: 1 });
+    ensure!(
+        first.is_ok() && second.is_ok() && third == Err(AddError::Named),
+        "another table"
+    );
+    Ok(table)
 }
 
 fn show_grid(rt: &HostRuntime) -> anyhow::Result<()> {

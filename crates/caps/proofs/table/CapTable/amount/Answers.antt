@@ -1,11 +1,14 @@
-use Rattle.std.proofs.Common.{Some, sym, ap, ◌∙◌, arith}
-use Rattle.caps.proofs.Rows.{cap_first, cap_none}
+use Rattle.std.proofs.Common.{None, sym, rules}
+use Rattle.std.proofs.lemmas.List.Quantifiers.{position-Some}
+use Rattle.caps.specs.Caps.{names}
+use Rattle.caps.proofs.Rows.{none_names, cap_first, cap_none}
 use Rattle.caps.proofs.table.CapTable.amount.Goals as goal
 
-pub returns-in-Some : goal.returns-in-Some
-returns-in-Some c =
-    let found = c.in-Some.ensures in
-    ap (λ x. Some x.amount) c.at.ensures ∙ sym (cap_first _ c.args.arc c.in-Some.place (omega (arith, found.0)) found.1 found.2)
+pub returns-in_err-place : goal.returns-in_err-place
+returns-in_err-place c = rw c.from_residual.ensures (sym (cap_none _ c.args.arc (none_names _ c.args.arc (sym c.in_err-place.ensures.value))))
 
-pub returns-in-None : goal.returns-in-None
-returns-in-None c = sym (cap_none _ c.args.arc c.in-None.ensures)
+pub returns : goal.returns
+returns c =
+    let there = position-Some (names c.args.arc) c.args.self.now c.in_ok-place.place None (sym c.in_ok-place.ensures.value) in
+    let cap = cap_first c.args.self.now c.args.arc c.in_ok-place.place there.0 there.2 there.1 in
+    search (rules, cap)
