@@ -1,20 +1,19 @@
 -- What a cap leaves, in each of the ways that it can be kept, and when there is no place for it.
-use Rattle.std.proofs.Common.{◌≡◌, ℕ, zero, suc, ◌<◌, ◌≤◌, Bool, true, false, cond, not, ◌&&◌, eqb, ltb, leb, ◌⊎◌, List, [], ◌∷◌, length, get_or, set, Some, None, Ok, Err, Option, count_by, position, option_map, Result, sym, refl, ap, ◌∙◌, subst, inl, inr, arith}
+use Rattle.std.proofs.Common.{◌≡◌, ℕ, zero, suc, ◌<◌, ◌≤◌, Bool, true, false, cond, not, ◌&&◌, ltb, leb, ◌⊎◌, List, [], ◌∷◌, length, get_or, set, Some, None, Ok, Err, Option, count_by, position, option_map, Result, sym, refl, ap, ◌∙◌, subst, inl, inr, arith}
 use Rattle.std.specs.List.{slice_get, AllByRecursion}
 use Rattle.std.specs.Option.{option_or}
 use Rattle.std.proofs.lemmas.List.{get_or-set_other}
 use Rattle.std.proofs.lemmas.List.Quantifiers.{position-Some}
 use Rattle.std.proofs.lemmas.List.Sums.{sum_by-cons, count_by-le-length}
 use Rattle.std.proofs.lemmas.Bool.{eq-eqb, eqb-true, ne_eqb, leb-true, lt-ltb, le-ltb, le-leb, lt-leb, cond-true, cond-false, cases_Bool, cases_order, not-true, and_parts, and_left, and_right, not_from_true, not_from_false, both_ways}
-use Rattle.std.proofs.lemmas.Option.{none-some, slice_get_within}
+use Rattle.std.proofs.lemmas.Option.{none-some}
 use Rattle.network.specs.Capped.{within, bounded, capped}
-use Rattle.network.specs.Limits.{max_arcs}
 use Rattle.network.specs.Net.{Net}
 use Rattle.network.specs.Roads.{with_most}
 use Rattle.network.specs.declared.refusal.Refusal.{Refusal}
 use Rattle.network.specs.declared.road.Road.{Road}
 use Rattle.network.proofs.Capped.{set_bounded}
-use Rattle.caps.specs.Caps.{place_count, names, cap_of, Once, IsTable, nothing_at, idle, caps_other, fault_at, cap_fault, place_for, Recapped, Answers, Does, Means, Lowers, with_road}
+use Rattle.caps.specs.Caps.{place_count, names, cap_of, Once, nothing_at, idle, caps_other, fault_at, cap_fault, place_for, Recapped, Answers, Does, Means, Lowers}
 use Rattle.caps.specs.declared.places.CapEntry.{CapEntry}
 use Rattle.caps.proofs.Rows.{none_passes, none_names, cap_first, cap_none, cap_other, cap_written, cap_gone}
 

@@ -1,5 +1,5 @@
 -- What a row of caps says of each arc, and what a new cap asks of it.
-use Rattle.std.specs.Prelude.{◌≡◌, ℕ, ◌<◌, ◌≤◌, Bool, true, false, cond, not, ◌&&◌, List, length, Some, None, count_by, Option, Result, MatchResult, ◌==◌, nat_le, nat_lt, slice_index_or, slice_set, find, position, is_none, option_map, IsSome}
+use Rattle.std.specs.Prelude.{◌≡◌, ℕ, ◌<◌, ◌≤◌, Bool, true, false, cond, not, ◌&&◌, List, length, Some, None, count_by, Option, Result, MatchResult, ◌==◌, nat_le, nat_lt, slice_index_or, slice_set, find, position, is_none, option_map, IsSome, codes}
 use Rattle.std.specs.List.{slice_get}
 use Rattle.std.specs.Option.{option_flatten, option_or}
 use Rattle.network.specs.Capped.{within, bounded_from}
@@ -42,6 +42,10 @@ Added ps ps' e = (position (names e.arc) ps ≡ None) × ((p : ℕ) × (position
 abbrev pub NotAdded : List (Option CapEntry) → ℕ → AddError → Type 0
 NotAdded ps a Named = IsSome (position (names a) ps)
 NotAdded ps a Full = (position (names a) ps ≡ None) × (position is_none ps ≡ None)
+
+abbrev pub add_error_text : AddError → List ℕ
+add_error_text Named = codes "the arc has an entry already"
+add_error_text Full = codes "no place is free"
 
 -- the amount caps nothing there: no such arc, or not an amount that it may carry
 abbrev pub nothing_at : Option Road → ℕ → Bool

@@ -43,6 +43,7 @@ pub fn idle_place<N: Network>(below: &mut N, table: &CapTable) -> Option<usize>
     ensures value { result ≡ position (idle (N.Network.meaning below.old).roads) table.now }
     ensures same { N.Network.meaning below.new ≡ N.Network.meaning below.old }
 {
+    // kept: `position` takes the closure that asks, and then no proof knows that the network it gives back means the same
     for (place, entry) in table.places().iter().enumerate() {
         if is_idle(below, *entry) {
             return Some(place);

@@ -1,5 +1,5 @@
 // A plain row of places for caps, which lends one place at a time.
-ghost use Rattle.std.specs.Prelude.{◌≡◌, ◌<◌, replicate, length, IfOk, None, slice_index_or, slice_set};
+ghost use Rattle.std.specs.Prelude.{◌≡◌, ◌<◌, ◌==◌, replicate, length, IfOk, None, slice_index_or, slice_set};
 ghost use Rattle.std.specs.Borrow.{Lends, sem};
 ghost use Rattle.std.specs.contracts.option.Option.{the_row as option_row};
 ghost use Rattle.caps.specs.Caps.{place_count};
@@ -14,6 +14,15 @@ use std::marker::Model;
 pub struct CapEntry {
     pub arc: u16,
     pub amount: u16,
+}
+
+impl CapEntry {
+    /// Whether the entry is for this arc.
+    pub(crate) fn names(&self, arc: usize) -> bool
+        ensures { result ≡ (self.now.arc == arc) }
+    {
+        usize::from(self.arc) == arc
+    }
 }
 
 /// Places of a table.

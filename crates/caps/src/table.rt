@@ -1,9 +1,11 @@
 // A table of caps, in which no arc stands twice.
-ghost use Rattle.std.specs.Prelude.{◌≡◌, ℕ, ◌<◌, true, replicate, IfOk, MatchResult, slice_index_or, slice_set, position, is_none};
-ghost use Rattle.caps.specs.Caps.{place_count, names, cap_of, IsTable, Added, NotAdded};
+ghost use Rattle.std.specs.Prelude.{◌≡◌, ℕ, ◌<◌, true, replicate, IfOk, MatchResult, Some, slice_index_or, slice_set, position, is_none};
+ghost use Rattle.caps.specs.Caps.{place_count, names, cap_of, IsTable, Added, NotAdded, add_error_text};
 
 use crate::places::{CapEntry, Places};
 use std::alloc::{AllocError, Global};
+use std::error::Error;
+use std::fmt;
 use std::marker::Model;
 
 /// Why an entry was not added.
@@ -14,6 +16,19 @@ pub enum AddError {
     /// No place is free.
     Full,
 }
+
+impl fmt::Display for AddError {
+    ghost output = { λ e. Some (add_error_text e) };
+
+    fn fmt<W: fmt::Write>(&self, f: &mut fmt::Formatter<W>) -> fmt::Result {
+        match self {
+            AddError::Named => write!(f, "the arc has an entry already"),
+            AddError::Full => write!(f, "no place is free"),
+        }
+    }
+}
+
+impl Error for AddError {}
 
 /// The caps of a layer, at most one for each arc.
 #[derive(Drop)]
@@ -68,8 +83,9 @@ impl CapTable {
         ensures value { result ≡ position (names arc) self.now }
         ensures kept { IsTable self.now }
     {
-        self.places().iter().position(|place| place.is_some_and(|entry| usize::from(entry.arc)
-            == arc))
+        self.places()
+            .iter()
+            .position(|place| place.is_some_and(|entry| entry.names(arc)))
     }
 
     /// The lowest free place.

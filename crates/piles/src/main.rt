@@ -14,6 +14,7 @@ use floors::floor::Floor;
 use grids::grid::Grid;
 use layers::exchange::Exchange;
 use network::interface::Network;
+use network::refusal::Refusal;
 use network::road::Road;
 use tables::held::Table;
 
@@ -91,33 +92,30 @@ fn table() -> Table<'static> {
 // The table with its second road capped at 1, its third capped and then lifted again, and a cap that is refused.
 fn capped(rt: &HostRuntime) -> anyhow::Result<Cap<Table<'static>>> {
     let mut cap = Cap::new(table(), CapTable::new(rt.alloc())?);
-    let set = cap.cap(1, 1).is_ok() && cap.cap(2, 0).is_ok() && cap.cap(2, 4).is_ok();
-    ensure!(set && cap.cap(3, 0).is_err(), "another cap");
+    for (arc, amount) in [(1, 1), (2, 0), (2, 4)] {
+        cap.cap(arc, amount)
+            .map_err(|refusal| anyhow!("{refusal}"))?;
+    }
+    ensure!(cap.cap(3, 0) == Err(Refusal::CapRange), "another cap");
     Ok(cap)
 }
 
 // Caps that name no arc, or more than the arc may carry.
 fn idle_caps(rt: &HostRuntime) -> anyhow::Result<CapTable> {
     let mut table = CapTable::new(rt.alloc())?;
-    let first = table.add(CapEntry { arc: 9, amount: 0 });
-    let second = table.add(CapEntry { arc: 0, amount: 3 });
-    let third = table.add(CapEntry { arc: 9, amount: 1 });
-    ensure!(
-        first.is_ok() && second.is_ok() && third == Err(AddError::Named),
-        "another table"
-    );
+    table.add(CapEntry { arc: 9, amount: 0 })?;
+    table.add(CapEntry { arc: 0, amount: 3 })?;
+    let again = table.add(CapEntry { arc: 9, amount: 1 });
+    ensure!(again == Err(AddError::Named), "another table");
     Ok(table)
 }
 
 fn show_grid(rt: &HostRuntime) -> anyhow::Result<()> {
-    match Grid::new(3, 3, 2) {
-        Ok(grid) => show(rt, "floor of grid", Floor::new(grid)),
-        Err(_) => Err(anyhow!("no grid")),
-    }
+    let grid = Grid::new(3, 3, 2).map_err(|_| anyhow!("no grid"))?;
+    show(rt, "floor of grid", Floor::new(grid))
 }
 
-fn show<N: Network + Drop>(rt: &HostRuntime, name: &str, network: N) -> anyhow::Result<()> {
-    let mut network = network;
+fn show<N: Network + Drop>(rt: &HostRuntime, name: &str, mut network: N) -> anyhow::Result<()> {
     show_asked(rt, name, &mut network)
 }
 

@@ -1,13 +1,12 @@
-use Rattle.std.proofs.Common.{◌≡◌, Some, sym, refl, ap, ◌∙◌, subst, arith}
+use Rattle.std.proofs.Common.{◌≡◌, Some, sym, refl, ◌∙◌, arith}
 use Rattle.std.proofs.lemmas.Option.{slice_get_within}
 use Rattle.std.proofs.lemmas.Result.{err_from_is_err_and, Ok-from_Ok_iff, OkIff-at_ok}
 use Rattle.network.specs.Net.{node_count}
 use Rattle.network.specs.Roads.{Ranged}
 use Rattle.network.specs.declared.refusal.Refusal.TheVariants.{CapsFull}
-use Rattle.caps.specs.Caps.{place_for, names, Lowers, Recapped}
-use Rattle.caps.specs.declared.places.CapEntry.{CapEntry}
+use Rattle.caps.specs.Caps.{place_for}
 use Rattle.caps.proofs.Rows.{err_of_none}
-use Rattle.caps.proofs.Changes.{road_of, taken_within, taken_alone, lowered, room_taken, room_none}
+use Rattle.caps.proofs.Changes.{road_of, taken_alone, lowered, room_taken, room_none}
 use Rattle.caps.proofs.layer.Cap.lower.Goals as goal
 
 pub returns-in_err-place-clause-done : goal.returns-in_err-place-clause-done

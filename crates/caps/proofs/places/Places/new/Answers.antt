@@ -1,4 +1,4 @@
-use Rattle.std.proofs.Common.{◌≡◌, None, Some, refl, rules}
+use Rattle.std.proofs.Common.{rules}
 use Rattle.caps.proofs.places.Places.new.Goals as goal
 
 pub returns : goal.returns
