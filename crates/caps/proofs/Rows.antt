@@ -1,24 +1,21 @@
 -- Rows of places: which cap an arc has, and which it has after a write of one place.
-use Rattle.std.proofs.Common.{◌≡◌, ℕ, ◌<◌, Bool, true, false, cond, ltb, List, length, get_or, set, replicate, Some, None, Err, Option, find, position, option_map, sym, refl, ap, ◌∙◌, inl, inr, arith}
+use Rattle.std.proofs.Common.{◌≡◌, ℕ, ◌<◌, Bool, true, false, cond, ltb, List, length, get_or, set, replicate, Some, None, Err, Option, Result, find, position, option_map, sym, refl, ap, ◌∙◌, inl, inr, arith}
 use Rattle.std.specs.List.{slice_get, position_or_len}
-use Rattle.std.specs.Option.{is_some, ok_or, option_flatten}
+use Rattle.std.specs.Option.{ok_or, option_flatten}
+use Rattle.std.specs.Result.{IsErrAnd}
 use Rattle.std.proofs.lemmas.Bool.{cases_eq, cases_lt, cond-true, cond-false, lt-ltb, le-ltb, both_ways}
 use Rattle.std.proofs.lemmas.List.{get_or_past, get_or-replicate, length-replicate, length-set, get_or-set_same, get_or-set_other}
 use Rattle.std.proofs.lemmas.List.Folds.{find_at, find_past}
 use Rattle.std.proofs.lemmas.List.Sums.{position_or_len_is, fails_before_first}
 use Rattle.std.proofs.lemmas.Option.{slice_get-get_or, slice_get_past, none-some}
+use Rattle.std.proofs.lemmas.Result.{err_from_is_err_and}
 use Rattle.caps.specs.Caps.{place_count, names, cap_of, IsTable}
 use Rattle.caps.specs.declared.places.CapEntry.{CapEntry}
 
--- a value that is not there
-pub is_none_of : {A : Type 0} (o : Option A) → is_some o ≡ false → o ≡ None
-is_none_of None h = refl
-is_none_of (Some x) h = absurd (both_ways true h refl)
-
--- the error where there is no value
-pub err_of_none : {A E : Type 0} (o : Option A) (d e : E) → Err e ≡ ok_or o d → (o ≡ None) × (e ≡ d)
-err_of_none None d e h = (refl, cc)
-err_of_none (Some x) d e h = absurd (cc)
+-- what `o.ok_or(d)?` returns where there is no value
+pub no_value : {A B E : Type 0} (o : Option A) (d e : E) (r : Result B E) → IsErrAnd r (λ x. x ≡ e) → Err e ≡ ok_or o d → (o ≡ None) × (r ≡ Err d)
+no_value None d e r exit h = let p = err_from_is_err_and r exit in (refl, p.1 ∙ ap Err (p.2 ∙ cc))
+no_value (Some x) d e r exit h = absurd (cc)
 
 -- nothing passes where there is no position
 pub none_passes : {X : Type 0} (test : X → Bool) (xs : List X) (d : X) → position test xs ≡ None → (k : ℕ) → k < length xs → test (get_or xs k d) ≡ false

@@ -106,6 +106,7 @@ impl<N: Network> Cap<N> {
         ensures kept { IsTable self.old.table }
         ensures same { N.Network.meaning self.new.below ≡ N.Network.meaning self.old.below }
     {
+        // kept: `or_else` takes the closure that asks, and then no proof knows that the network it gives back means the same
         if let Some(place) = self.table.find(arc) {
             return Some(place);
         }

@@ -1,11 +1,10 @@
 use Rattle.std.proofs.Common.{◌≡◌, ◌<◌, true, Some, Ok, Result, count_by, sym, refl, ap, ◌∙◌, subst, inl}
 use Rattle.std.specs.List.{slice_get}
-use Rattle.std.proofs.lemmas.Result.{err_from_is_err_and}
 use Rattle.network.specs.Capped.{within, capped}
 use Rattle.network.specs.declared.refusal.Refusal.{Refusal}
 use Rattle.network.specs.declared.refusal.Refusal.TheVariants.{NoSuchArc}
 use Rattle.caps.specs.Caps.{cap_of, caps_other, Lowers}
-use Rattle.caps.proofs.Rows.{err_of_none}
+use Rattle.caps.proofs.Rows.{no_value}
 use Rattle.caps.proofs.Changes.{no_arc, no_range, no_fault, lowers_does, lowers_answers, lifts_does, does_means, within_below}
 use Rattle.caps.proofs.layer.Cap.cap.Goals as goal
 
@@ -33,9 +32,8 @@ returns-in_err-road g c =
     let ps = c.args.self.now.table in
     let net = g.N.Network.meaning c.args.self.now.below in
     let others = count_by (caps_other net.roads c.args.arc) ps in
-    let p = err_from_is_err_and c.from_residual.result c.from_residual.ensures.1 in
-    let none = err_of_none _ NoSuchArc _ c.in_err-road.ensures.value in
-    rw (p.1, p.2, none.1) (record {
+    let none = no_value c.arc.result NoSuchArc _ _ c.from_residual.ensures.1 c.in_err-road.ensures.value in
+    rw none.1 (record {
       done = refl;
       meant = ap (capped (cap_of ps)) c.arc.ensures.same;
       answer = (1, no_arc others c.args.arc c.args.amount net.roads (sym none.0 ∙ c.arc.ensures.value), (refl, refl));

@@ -1,11 +1,11 @@
 use Rattle.std.proofs.Common.{◌≡◌, Some, sym, refl, ◌∙◌, arith}
 use Rattle.std.proofs.lemmas.Option.{slice_get_within}
-use Rattle.std.proofs.lemmas.Result.{err_from_is_err_and, Ok-from_Ok_iff, OkIff-at_ok}
+use Rattle.std.proofs.lemmas.Result.{Ok-from_Ok_iff, OkIff-at_ok}
 use Rattle.network.specs.Net.{node_count}
 use Rattle.network.specs.Roads.{Ranged}
 use Rattle.network.specs.declared.refusal.Refusal.TheVariants.{CapsFull}
 use Rattle.caps.specs.Caps.{place_for}
-use Rattle.caps.proofs.Rows.{err_of_none}
+use Rattle.caps.proofs.Rows.{no_value}
 use Rattle.caps.proofs.Changes.{road_of, taken_alone, lowered, room_taken, room_none}
 use Rattle.caps.proofs.layer.Cap.lower.Goals as goal
 
@@ -13,9 +13,8 @@ pub returns-in_err-place-clause-done : goal.returns-in_err-place-clause-done
 returns-in_err-place-clause-done g c =
     let ps = c.args.self.now.table in
     let roads = (g.N.Network.meaning c.args.self.now.below).roads in
-    let p = err_from_is_err_and c.from_residual.result c.from_residual.ensures.1 in
-    let full = err_of_none _ CapsFull _ c.in_err-place.ensures.value in
-    rw (p.1, p.2, full.1) (room_none ps roads c.args.arc c.place_for.ensures.kept.full (sym c.place_for.ensures.value ∙ full.0), (refl, refl), c.place_for.ensures.table)
+    let full = no_value c.place_for.result CapsFull _ _ c.from_residual.ensures.1 c.in_err-place.ensures.value in
+    rw full.1 (room_none ps roads c.args.arc c.place_for.ensures.kept.full (sym c.place_for.ensures.value ∙ full.0), (refl, refl), c.place_for.ensures.table)
 
 pub unwrap-requires : goal.unwrap-requires
 unwrap-requires g c =
