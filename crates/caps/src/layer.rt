@@ -45,8 +45,8 @@ impl<N: Network> Network for Cap<N> {
     }
 
     fn arc(&mut self, arc: usize) -> Option<Road> {
-        let road = self.below.arc(arc)?;
-        Some(bounded_by(self.table.amount(arc), road))
+        let cap = self.table.amount(arc);
+        self.below.arc(arc).map(|road| bounded_by(cap, road))
     }
 }
 
