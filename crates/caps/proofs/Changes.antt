@@ -1,19 +1,17 @@
 -- What a cap leaves, in each of the ways that it can be kept, and when there is no place for it.
-use Rattle.std.proofs.Common.{◌≡◌, ℕ, zero, suc, ◌<◌, ◌≤◌, Bool, true, false, cond, not, ◌&&◌, ltb, leb, ◌⊎◌, List, [], ◌∷◌, length, get_or, set, Some, None, Ok, Err, Option, count_by, position, option_map, Result, sym, refl, ap, ◌∙◌, subst, inl, inr, arith}
+use Rattle.std.proofs.Common.{◌≡◌, ℕ, zero, suc, ◌<◌, ◌≤◌, Bool, true, false, cond, not, ◌&&◌, ltb, ◌⊎◌, List, [], ◌∷◌, length, get_or, set, Some, None, Option, count_by, position, option_map, sym, refl, ap, ◌∙◌, subst, inl, inr, arith}
 use Rattle.std.specs.List.{slice_get, AllByRecursion}
 use Rattle.std.specs.Option.{option_or}
 use Rattle.std.proofs.lemmas.List.{get_or-set_other}
 use Rattle.std.proofs.lemmas.List.Quantifiers.{position-Some}
 use Rattle.std.proofs.lemmas.List.Sums.{sum_by-cons, count_by-le-length}
-use Rattle.std.proofs.lemmas.Bool.{eq-eqb, eqb-true, ne_eqb, leb-true, lt-ltb, le-ltb, le-leb, lt-leb, cond-true, cond-false, cases_Bool, cases_order, not-true, and_parts, and_left, and_right, not_from_true, not_from_false, both_ways}
+use Rattle.std.proofs.lemmas.Bool.{eq-eqb, eqb-true, ne_eqb, lt-ltb, le-ltb, cond-true, cond-false, cases_Bool, cases_order, not-true, and_left, and_right, not_from_true, not_from_false, both_ways}
 use Rattle.std.proofs.lemmas.Option.{none-some}
-use Rattle.network.specs.Capped.{within, bounded, capped}
-use Rattle.network.specs.Net.{Net}
+use Rattle.network.specs.Capped.{within, bounded}
 use Rattle.network.specs.Roads.{with_most}
-use Rattle.network.specs.declared.refusal.Refusal.{Refusal}
 use Rattle.network.specs.declared.road.Road.{Road}
 use Rattle.network.proofs.Capped.{set_bounded}
-use Rattle.caps.specs.Caps.{place_count, names, cap_of, Once, nothing_at, idle, caps_other, fault_at, cap_fault, place_for, Recapped, Answers, Does, Means, Lowers}
+use Rattle.caps.specs.Caps.{place_count, names, cap_of, Once, nothing_at, idle, caps_other, place_for, Recapped}
 use Rattle.caps.specs.declared.places.CapEntry.{CapEntry}
 use Rattle.caps.proofs.Rows.{none_passes, none_names, cap_first, cap_none, cap_other, cap_written, cap_gone}
 
@@ -195,53 +193,3 @@ room_none ps roads a full none =
     ap (λ b. not b && not (names a (get_or ps k None))) (none_passes (idle roads) ps None parts.1 k l)
     ∙ not_from_false (names a (get_or ps k None)) (none_names ps a parts.0 k)) in
     omega (arith, count_all (caps_other roads a) ps None all)
-
--- the faults
-pub no_arc : (others a u : ℕ) (roads : List Road) → None ≡ slice_get roads a → fault_at others (slice_get roads a) u ≡ Some 1
-no_arc others a u roads at = ap (λ o. fault_at others o u) (sym at)
-
-pub no_range : (others a u : ℕ) (roads : List Road) (r : Road) → Some r ≡ slice_get roads a → within r u ≡ false → fault_at others (slice_get roads a) u ≡ Some 2
-no_range others a u roads r at out = ap (λ o. fault_at others o u) (sym at) ∙ cond-false (within r u) _ (Some 2) out
-
-pub no_fault : (others a u : ℕ) (roads : List Road) (r : Road) → Some r ≡ slice_get roads a → within r u ≡ true → (u ≡ r.most) ⊎ (others < place_count) → fault_at others (slice_get roads a) u ≡ None
-no_fault others a u roads r at fit why =
-    ap (λ o. fault_at others o u) (sym at) ∙ cond-true (within r u) _ (Some 2) fit
-    ∙ cond-false (ltb u r.most && leb place_count others) (Some 3) None
-    (elim why [
-      | inl top ↦ and_left (ltb u r.most) (leb place_count others) (le-ltb u r.most (omega arith))
-      | inr few ↦ and_right (ltb u r.most) (leb place_count others) (lt-leb place_count others few)
-    ])
-
-pub no_place : (others a u : ℕ) (roads : List Road) (r : Road) → Some r ≡ slice_get roads a → within r u ≡ true → u < r.most → place_count ≤ others → fault_at others (slice_get roads a) u ≡ Some 3
-no_place others a u roads r at fit low full =
-    ap (λ o. fault_at others o u) (sym at) ∙ cond-true (within r u) _ (Some 2) fit
-    ∙ cond-true (ltb u r.most && leb place_count others) (Some 3) None
-    (ap (λ b. b && leb place_count others) (lt-ltb u r.most low) ∙ le-leb place_count others full)
-
--- a cap below the most, as any cap
-pub lowers_does : (res : Result (Unit {0}) Refusal) (ps ps' : List (Option CapEntry)) (roads : List Road) (a u : ℕ) (r : Road) → Some r ≡ slice_get roads a → Lowers res ps ps' roads a u r → Does res ps ps' roads a u
-lowers_does (Ok x) ps ps' roads a u r at h = λ s is. let q : r ≡ s = cc in subst (Recapped ps ps' roads a u) q h.1
-lowers_does (Err e) ps ps' roads a u r at h = h.2
-
-pub lowers_answers : (res : Result (Unit {0}) Refusal) (ps ps' : List (Option CapEntry)) (roads : List Road) (a u : ℕ) (r : Road) → Some r ≡ slice_get roads a → within r u ≡ true → u < r.most
-    → Lowers res ps ps' roads a u r → Answers res (cap_fault ps roads a u)
-lowers_answers (Ok x) ps ps' roads a u r at fit low h = no_fault (count_by (caps_other roads a) ps) a u roads r at fit (inr h.0)
-lowers_answers (Err e) ps ps' roads a u r at fit low h = (3, no_place (count_by (caps_other roads a) ps) a u roads r at fit low h.0, h.1)
-
-pub within_below : (r : Road) (u : ℕ) → within r u ≡ true → (u ≡ r.most → ⊥) → u < r.most
-within_below r u fit apart = let h = leb-true u r.most (and_parts (leb r.least u) (leb u r.most) fit).1 in omega arith
-
--- what a cap that is lifted does, where the network below means the same after it is asked
-pub lifts_does : (ps ps' : List (Option CapEntry)) (n m : Net) (a u : ℕ) (r : Road) → m ≡ n → u ≡ r.most → Some r ≡ slice_get n.roads a → Recapped ps ps' m.roads a r.most r
-    → (s : Road) → slice_get n.roads a ≡ Some s → Recapped ps ps' n.roads a u s
-lifts_does ps ps' n m a u r same top at h s is =
-    let q : r ≡ s = cc in
-    let there = subst (λ k. Recapped ps ps' k.roads a r.most r) same h in
-    subst (Recapped ps ps' n.roads a u) q (subst (λ v. Recapped ps ps' n.roads a v r) (sym top) there)
-
--- what a cap does to the table, said of the network
-pub does_means : (res : Result (Unit {0}) Refusal) (ps ps' : List (Option CapEntry)) (n n' : Net) (a u : ℕ) → n' ≡ n → Does res ps ps' n.roads a u
-    → Means res (capped (cap_of ps) n) (capped (cap_of ps') n') n.roads a u
-does_means (Ok x) ps ps' n n' a u same h =
-    λ r at. ap (capped (cap_of ps')) same ∙ ap {B = Net} (λ roads. record { stocks = n.stocks; roads = roads; fixed = n.fixed }) (h r at).meant
-does_means (Err e) ps ps' n n' a u same h = ap (capped (cap_of ps')) same ∙ ap (λ xs. capped (cap_of xs) n) h

@@ -1,5 +1,5 @@
 // A table of caps, in which no arc stands twice.
-ghost use Rattle.std.specs.Prelude.{◌≡◌, ℕ, ◌<◌, true, replicate, IfOk, MatchResult, Some, slice_index_or, slice_set, position, is_none};
+ghost use Rattle.std.specs.Prelude.{◌≡◌, ℕ, ◌<◌, true, length, replicate, IfOk, MatchResult, Some, slice_index_or, slice_set, position, is_none};
 ghost use Rattle.caps.specs.Caps.{place_count, names, cap_of, IsTable, Added, NotAdded, add_error_text};
 
 use crate::places::{CapEntry, Places};
@@ -72,8 +72,7 @@ impl CapTable {
 
     /// All places, the lowest first.
     pub(crate) fn places(&self) -> &[Option<CapEntry>]
-        ensures value { result.now ≡ self.now }
-        ensures kept { IsTable self.now }
+        ensures { result.now ≡ self.now }
     {
         self.places.as_slice()
     }
@@ -83,15 +82,15 @@ impl CapTable {
         ensures value { result ≡ position (names arc) self.now }
         ensures kept { IsTable self.now }
     {
-        self.places()
+        self.places
+            .as_slice()
             .iter()
             .position(|place| place.is_some_and(|entry| entry.names(arc)))
     }
 
     /// The lowest free place.
     fn free_place(&self) -> Option<usize>
-        ensures value { result ≡ position is_none self.now }
-        ensures kept { IsTable self.now }
+        ensures { result ≡ position is_none self.now }
     {
         self.places().iter().position(|place| place.is_none())
     }
@@ -106,7 +105,7 @@ impl CapTable {
 
     /// Frees one place.
     pub(crate) fn clear(&mut self, place: usize)
-        requires { place < place_count }
+        requires { place < length self.old }
         ensures { self.new ≡ slice_set self.old place None }
     {
         *self.places.place_mut(place) = None;
@@ -114,7 +113,7 @@ impl CapTable {
 
     /// Puts a cap into a place, over what stands there, where no other place names its arc.
     pub(crate) fn put(&mut self, place: usize, entry: CapEntry)
-        requires fits { place < place_count }
+        requires fits { place < length self.old }
         requires alone { (k : ℕ) → names entry.arc (slice_index_or self.old k None) ≡ true → k ≡ place }
         ensures { self.new ≡ slice_set self.old place (Some entry) }
     {

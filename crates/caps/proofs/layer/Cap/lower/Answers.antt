@@ -1,12 +1,9 @@
-use Rattle.std.proofs.Common.{◌≡◌, Some, sym, refl, ◌∙◌, arith}
-use Rattle.std.proofs.lemmas.Option.{slice_get_within}
-use Rattle.std.proofs.lemmas.Result.{Ok-from_Ok_iff, OkIff-at_ok}
-use Rattle.network.specs.Net.{node_count}
-use Rattle.network.specs.Roads.{Ranged}
+use Rattle.std.proofs.Common.{◌≡◌, Some, sym, refl, ◌∙◌}
+use Rattle.std.proofs.lemmas.Result.{OkIff-at_ok}
 use Rattle.network.specs.declared.refusal.Refusal.TheVariants.{CapsFull}
 use Rattle.caps.specs.Caps.{place_for}
 use Rattle.caps.proofs.Rows.{no_value}
-use Rattle.caps.proofs.Changes.{road_of, taken_alone, lowered, room_taken, room_none}
+use Rattle.caps.proofs.Changes.{taken_alone, lowered, room_taken, room_none}
 use Rattle.caps.proofs.layer.Cap.lower.Goals as goal
 
 pub returns-in_err-place-clause-done : goal.returns-in_err-place-clause-done
@@ -15,19 +12,6 @@ returns-in_err-place-clause-done g c =
     let roads = (g.N.Network.meaning c.args.self.now.below).roads in
     let full = no_value c.place_for.result CapsFull _ _ c.from_residual.ensures.1 c.in_err-place.ensures.value in
     rw full.1 (room_none ps roads c.args.arc c.place_for.ensures.kept.full (sym c.place_for.ensures.value ∙ full.0), (refl, refl), c.place_for.ensures.table)
-
-pub unwrap-requires : goal.unwrap-requires
-unwrap-requires g c =
-    let net = g.N.Network.meaning c.args.self.now.below in
-    let few = (g.N.Network.laws c.args.self.now.below).arcs in
-    let inside = slice_get_within net.roads c.args.arc c.args.road (sym c.requires.there) in
-    rw (Ok-from_Ok_iff c.try_from.result _ _ c.try_from.ensures (omega arith))
-
-pub unwrap-requires-2 : goal.unwrap-requires-2
-unwrap-requires-2 g c =
-    let net = g.N.Network.meaning c.args.self.now.below in
-    let most = (road_of (Ranged (node_count net)) net.roads c.args.arc c.args.road (g.N.Network.laws c.args.self.now.below).ranged (sym c.requires.there)).most in
-    rw (Ok-from_Ok_iff c.try_from-2.result _ _ c.try_from-2.ensures (omega arith))
 
 pub put-requires-clause-alone : goal.put-requires-clause-alone
 put-requires-clause-alone g c =
