@@ -1,6 +1,6 @@
 -- What a cap leaves, in each of the ways that it can be kept, and when there is no place for it.
-use Rattle.std.proofs.Common.{◌≡◌, ℕ, zero, suc, ◌<◌, ◌≤◌, Bool, true, false, cond, not, ◌&&◌, ltb, ◌⊎◌, List, [], ◌∷◌, length, get_or, set, Some, None, Option, count_by, position, option_map, sym, refl, ap, ◌∙◌, subst, inl, inr, arith}
-use Rattle.std.specs.List.{slice_get, AllByRecursion}
+use Rattle.std.proofs.Common.{◌≡◌, ℕ, zero, suc, ◌<◌, ◌≤◌, Bool, true, false, cond, not, ◌&&◌, ltb, ◌⊎◌, List, [], ◌∷◌, length, get_or, set, Some, None, Option, count_by, position, option_map, sym, refl, ap, ◌∙◌, inl, inr, arith}
+use Rattle.std.specs.List.{slice_get}
 use Rattle.std.specs.Option.{option_or}
 use Rattle.std.proofs.lemmas.List.{get_or-set_other}
 use Rattle.std.proofs.lemmas.List.Quantifiers.{position-Some}
@@ -14,12 +14,6 @@ use Rattle.network.proofs.Capped.{set_bounded}
 use Rattle.caps.specs.Caps.{place_count, names, cap_of, Once, nothing_at, idle, caps_other, place_for, Recapped}
 use Rattle.caps.specs.declared.places.CapEntry.{CapEntry}
 use Rattle.caps.proofs.Rows.{none_passes, none_names, cap_first, cap_none, cap_other, cap_written, cap_gone}
-
--- what holds of every road holds of an arc's
-pub road_of : (P : Road → Type 0) (roads : List Road) (a : ℕ) (r : Road) → AllByRecursion P roads → slice_get roads a ≡ Some r → P r
-road_of P [] a r h at = absurd (none-some r at)
-road_of P (x ∷ roads) zero r h at = let q : x ≡ r = cc in subst P q h.0
-road_of P (x ∷ roads) (suc a) r h at = road_of P roads a r h.1 at
 
 -- an arc that one place names alone is named by no other
 alone : (ps : List (Option CapEntry)) (a p : ℕ) → Once ps → names a (get_or ps p None) ≡ true → (k : ℕ) → (k ≡ p → ⊥) → names a (get_or ps k None) ≡ false
