@@ -1,11 +1,12 @@
 -- Rows of places: which cap an arc has, and which it has after a write of one place.
 use Rattle.std.proofs.Common.{◌≡◌, ℕ, ◌<◌, Bool, true, false, cond, ltb, List, length, get_or, set, replicate, Some, None, Err, Option, Result, find, position, option_map, sym, refl, ap, ◌∙◌, inl, inr, arith}
 use Rattle.std.specs.List.{slice_get, position_or_len}
-use Rattle.std.specs.Option.{ok_or, option_flatten}
+use Rattle.std.specs.Option.{ok_or, option_and_then, option_flatten}
 use Rattle.std.specs.Result.{IsErrAnd}
 use Rattle.std.proofs.lemmas.Bool.{cases_eq, cases_lt, cond-true, cond-false, lt-ltb, le-ltb, both_ways}
 use Rattle.std.proofs.lemmas.List.{get_or_past, get_or-replicate, length-replicate, length-set, get_or-set_same, get_or-set_other}
 use Rattle.std.proofs.lemmas.List.Folds.{find_at, find_past}
+use Rattle.std.proofs.lemmas.List.Quantifiers.{position-Some}
 use Rattle.std.proofs.lemmas.List.Sums.{position_or_len_is, fails_before_first}
 use Rattle.std.proofs.lemmas.Option.{slice_get-get_or, slice_get_past, none-some}
 use Rattle.std.proofs.lemmas.Result.{err_from_is_err_and}
@@ -89,3 +90,11 @@ table_free = record {
   full = length-replicate {A = Option CapEntry} place_count None;
   once = λ a i j l here there. both_ways (names a (get_or (replicate place_count None) i None)) (free_names place_count a i) here;
 }
+
+-- the cap of an arc, by its position
+pub cap_found : (ps : List (Option CapEntry)) (a : ℕ) → cap_of ps a ≡ option_and_then (λ p. option_map (λ e. e.amount) (get_or ps p None)) (position (names a) ps)
+cap_found ps a = go (position (names a) ps) refl
+  where
+    go : (o : Option ℕ) → position (names a) ps ≡ o → cap_of ps a ≡ option_and_then (λ p. option_map (λ e. e.amount) (get_or ps p None)) o
+    go None is = cap_none ps a (none_names ps a is)
+    go (Some p) is = let there = position-Some (names a) ps p None is in cap_first ps a p there.0 there.2 there.1

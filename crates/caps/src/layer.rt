@@ -36,6 +36,7 @@ impl<N: Network> Network for Cap<N> {
 
     ghost laws = { λ s. capped_lawful (cap_of s.table) (N.Network.meaning s.below) (N.Network.laws s.below) };
 
+    #[tactic(auto, using(network::proofs::Capped::length_bounded))]
     fn size(&mut self) -> Size {
         self.below.size()
     }
@@ -44,6 +45,7 @@ impl<N: Network> Network for Cap<N> {
         self.below.stock(node)
     }
 
+    #[tactic(auto, using(network::proofs::Capped::nth_bounded))]
     fn arc(&mut self, arc: usize) -> Option<Road> {
         let cap = self.table.amount(arc);
         self.below.arc(arc).map(|road| bounded_by(cap, road))
