@@ -1,45 +1,100 @@
--- Rows of caps: which entry an arc has, and that no arc stands twice after a change.
-use Rattle.std.proofs.Common.{◌≡◌, ℕ, zero, suc, ◌<◌, cond, eqb, List, [], ◌∷◌, length, get_or, set, replicate, Some, None, sym, refl, ap, ◌∙◌, inl, inr, arith}
-use Rattle.std.proofs.lemmas.List.{get_or_default, get_or-replicate, length-replicate}
-use Rattle.std.proofs.lemmas.Bool.{eq-eqb, ne_eqb, cond-true, cond-false, cases_order}
-use Rattle.caps.specs.Caps.{free, cap_of, Once, Unnamed}
+-- Rows of places: which cap an arc has, and which it has after a write of one place.
+use Rattle.std.proofs.Common.{◌≡◌, ℕ, ◌<◌, Bool, true, false, cond, ltb, List, length, get_or, set, replicate, Some, None, Err, Option, Result, find, position, option_map, sym, refl, ap, ◌∙◌, inl, inr, arith}
+use Rattle.std.specs.List.{slice_get, position_or_len}
+use Rattle.std.specs.Option.{ok_or, option_and_then, option_flatten}
+use Rattle.std.specs.Result.{IsErrAnd}
+use Rattle.std.proofs.lemmas.Bool.{cases_eq, cases_lt, cond-true, cond-false, lt-ltb, le-ltb, both_ways}
+use Rattle.std.proofs.lemmas.List.{get_or_past, get_or-replicate, length-replicate, length-set, get_or-set_same, get_or-set_other}
+use Rattle.std.proofs.lemmas.List.Folds.{find_at, find_past}
+use Rattle.std.proofs.lemmas.List.Quantifiers.{position-Some}
+use Rattle.std.proofs.lemmas.List.Sums.{position_or_len_is, fails_before_first}
+use Rattle.std.proofs.lemmas.Option.{slice_get-get_or, slice_get_past, none-some}
+use Rattle.std.proofs.lemmas.Result.{err_from_is_err_and}
+use Rattle.caps.specs.Caps.{place_count, names, cap_of, IsTable}
 use Rattle.caps.specs.declared.places.CapEntry.{CapEntry}
 
--- what a slice of the entries has at a place, at any default
-pub read_place : (xs es : List CapEntry) (p : ℕ) (d : CapEntry) → xs ≡ es → p < length xs → get_or xs p d ≡ get_or es p free
-read_place xs es p d e l = get_or_default xs p d free l ∙ ap (λ v. get_or v p free) e
+-- what `o.ok_or(d)?` returns where there is no value
+pub no_value : {A B E : Type 0} (o : Option A) (d e : E) (r : Result B E) → IsErrAnd r (λ x. x ≡ e) → Err e ≡ ok_or o d → (o ≡ None) × (r ≡ Err d)
+no_value None d e r exit h = let p = err_from_is_err_and r exit in (refl, p.1 ∙ ap Err (p.2 ∙ cc))
+no_value (Some x) d e r exit h = absurd (cc)
 
--- the first entry that names the arc is its cap
-pub cap_first : (es : List CapEntry) (a p : ℕ) → p < length es → (get_or es p free).arc ≡ a → ((k : ℕ) → k < p → (get_or es k free).arc ≡ a → ⊥) → cap_of es a ≡ Some (get_or es p free).amount
-cap_first [] a p h e before = absurd (omega arith)
-cap_first (x ∷ es) a zero h e before = cond-true (eqb x.arc a) (Some x.amount) (cap_of es a) (eq-eqb x.arc a e)
-cap_first (x ∷ es) a (suc p) h e before =
-    cond-false (eqb x.arc a) (Some x.amount) (cap_of es a) (ne_eqb x.arc a (before 0 (omega arith)))
-    ∙ cap_first es a p (omega arith) e (λ k l. before (suc k) (omega arith))
+-- nothing passes where there is no position
+pub none_passes : {X : Type 0} (test : X → Bool) (xs : List X) (d : X) → position test xs ≡ None → (k : ℕ) → k < length xs → test (get_or xs k d) ≡ false
+none_passes test xs d none k l =
+    elim (cases_lt (position_or_len test xs) (length xs)) [
+      | inl inside ↦ absurd (none-some (position_or_len test xs) (sym none ∙ cond-true (ltb (position_or_len test xs) (length xs)) (Some (position_or_len test xs)) None (lt-ltb (position_or_len test xs) (length xs) inside)))
+      | inr past ↦ fails_before_first test xs k d (omega arith)
+    ]
 
-pub cap_none : (es : List CapEntry) (a : ℕ) → Unnamed es a → cap_of es a ≡ None
-cap_none [] a no_one = refl
-cap_none (x ∷ es) a no_one =
-    cond-false (eqb x.arc a) (Some x.amount) (cap_of es a) (ne_eqb x.arc a (no_one 0 (omega arith)))
-    ∙ cap_none es a (λ k l. no_one (suc k) (omega arith))
+-- the first that passes
+pub position_at : {X : Type 0} (test : X → Bool) (xs : List X) (d : X) (p : ℕ) → p < length xs → ((k : ℕ) → k < p → test (get_or xs k d) ≡ false) → test (get_or xs p d) ≡ true → position test xs ≡ Some p
+position_at test xs d p l before here =
+    ap (λ n. cond (ltb n (length xs)) (Some n) None) (position_or_len_is test xs p d (omega arith) before (λ _. here)) ∙ cond-true (ltb p (length xs)) (Some p) None (lt-ltb p (length xs) l)
+
+pub position_none : {X : Type 0} (test : X → Bool) (xs : List X) (d : X) → ((k : ℕ) → k < length xs → test (get_or xs k d) ≡ false) → position test xs ≡ None
+position_none test xs d none =
+    ap (λ n. cond (ltb n (length xs)) (Some n) None) (position_or_len_is test xs (length xs) d (omega arith) none (λ l. absurd (omega arith)))
+    ∙ cond-false (ltb (length xs) (length xs)) (Some (length xs)) None (le-ltb (length xs) (length xs) (omega arith))
+
+-- no place names an arc that has no position
+pub none_names : (ps : List (Option CapEntry)) (a : ℕ) → position (names a) ps ≡ None → (k : ℕ) → names a (get_or ps k None) ≡ false
+none_names ps a none k =
+    elim (cases_lt k (length ps)) [ inl l ↦ none_passes (names a) ps None none k l | inr past ↦ ap (names a) (get_or_past ps k None past) ]
+
+-- the first place that names the arc has its cap
+pub cap_first : (ps : List (Option CapEntry)) (a p : ℕ) → p < length ps → ((k : ℕ) → k < p → names a (get_or ps k None) ≡ false) → names a (get_or ps p None) ≡ true
+    → cap_of ps a ≡ option_map (λ e. e.amount) (get_or ps p None)
+cap_first ps a p l before here =
+    let first : position_or_len (names a) ps ≡ p = position_or_len_is (names a) ps p None (omega arith) before (λ _. here) in
+    let found : find (names a) ps ≡ Some (get_or ps p None) = find_at (names a) ps ∙ ap (slice_get ps) first ∙ slice_get-get_or ps p None l in
+    ap (λ o. option_map (λ e. e.amount) (option_flatten o)) found
+
+pub cap_none : (ps : List (Option CapEntry)) (a : ℕ) → ((k : ℕ) → names a (get_or ps k None) ≡ false) → cap_of ps a ≡ None
+cap_none ps a no_one =
+    let past : position_or_len (names a) ps ≡ length ps = position_or_len_is (names a) ps (length ps) None (omega arith) (λ k _. no_one k) (λ l. absurd (omega arith)) in
+    let found : find (names a) ps ≡ None = find_at (names a) ps ∙ ap (slice_get ps) past ∙ slice_get_past ps (length ps) (omega arith) in
+    ap (λ o. option_map (λ e. e.amount) (option_flatten o)) found
 
 -- a write touches no arc but that which it names and that which the place named
-pub cap_other : (es : List CapEntry) (p : ℕ) (e : CapEntry) (b : ℕ) → (e.arc ≡ b → ⊥) → ((get_or es p free).arc ≡ b → ⊥) → cap_of (set es p e) b ≡ cap_of es b
-cap_other [] p e b new old = refl
-cap_other (x ∷ es) zero e b new old =
-    cond-false (eqb e.arc b) (Some e.amount) (cap_of es b) (ne_eqb e.arc b new)
-    ∙ sym (cond-false (eqb x.arc b) (Some x.amount) (cap_of es b) (ne_eqb x.arc b old))
-cap_other (x ∷ es) (suc p) e b new old = ap (cond (eqb x.arc b) (Some x.amount)) (cap_other es p e b new old)
+pub cap_other : (ps : List (Option CapEntry)) (p : ℕ) (y : Option CapEntry) (b : ℕ) → names b (get_or ps p None) ≡ false → names b y ≡ false → cap_of (set ps p y) b ≡ cap_of ps b
+cap_other ps p y b old new = ap (λ o. option_map (λ e. e.amount) (option_flatten o)) (find_past (names b) ps p y None old new)
 
--- an arc that a place names stands in no other
-pub once_apart : (es : List CapEntry) (a p k : ℕ) → Once es → a < free.arc → p < length es → k < length es → (get_or es p free).arc ≡ a → (get_or es k free).arc ≡ a → (k ≡ p → ⊥) → ⊥
-once_apart es a p k once small hp hk ep ek apart =
-    let sp : (get_or es p free).arc < free.arc = omega arith in
-    let sk : (get_or es k free).arc < free.arc = omega arith in
-    elim (cases_order p k) [ inl e ↦ apart (sym e) | inr w ↦ elim w [ inl l ↦ once p k (l, hk, ep ∙ sym ek, sp) | inr l ↦ once k p (l, hp, ek ∙ sym ep, sk) ] ]
+-- after a write, the arc that it names has this cap, where no lower place names it
+pub cap_written : (ps : List (Option CapEntry)) (a p : ℕ) (y : Option CapEntry) → p < length ps → ((k : ℕ) → k < p → names a (get_or ps k None) ≡ false) → names a y ≡ true
+    → cap_of (set ps p y) a ≡ option_map (λ e. e.amount) y
+cap_written ps a p y l before new =
+    let is = get_or-set_same ps p y None l in
+    cap_first (set ps p y) a p (omega (arith, length-set ps p y)) (λ k h. ap (names a) (get_or-set_other ps p k y None (λ z. omega arith)) ∙ before k h) (ap (names a) is ∙ new)
+    ∙ ap (option_map (λ e. e.amount)) is
 
-pub once_free : (n : ℕ) → Once (replicate n free)
-once_free n i j h =
-    let l : i < n = omega (arith, length-replicate n free, h.0, h.1) in
-    let z = ap (λ x. x.arc) (get_or-replicate n i free free l) in
-    omega (arith, h.3)
+-- after a write, no place names an arc that stood there alone
+pub cap_gone : (ps : List (Option CapEntry)) (a p : ℕ) (y : Option CapEntry) → p < length ps → ((k : ℕ) → (k ≡ p → ⊥) → names a (get_or ps k None) ≡ false) → names a y ≡ false → cap_of (set ps p y) a ≡ None
+cap_gone ps a p y l alone new =
+    cap_none (set ps p y) a
+    (λ k.
+    elim (cases_eq k p) [
+      | inl same ↦ ap (λ i. names a (get_or (set ps p y) i None)) same ∙ ap (names a) (get_or-set_same ps p y None l) ∙ new
+      | inr apart ↦ ap (names a) (get_or-set_other ps p k y None apart) ∙ alone k apart
+    ])
+
+-- a row of free places names no arc
+free_names : (n a k : ℕ) → names a (get_or (replicate n None) k None) ≡ false
+free_names n a k =
+    elim (cases_lt k n) [
+      | inl l ↦ ap (names a) (get_or-replicate n k None None l)
+      | inr past ↦ ap (names a) (get_or_past (replicate n None) k None (omega (arith, length-replicate {A = Option CapEntry} n None)))
+    ]
+
+pub table_free : IsTable (replicate place_count None)
+table_free = record {
+  full = length-replicate {A = Option CapEntry} place_count None;
+  once = λ a i j l here there. both_ways (names a (get_or (replicate place_count None) i None)) (free_names place_count a i) here;
+}
+
+-- the cap of an arc, by its position
+pub cap_found : (ps : List (Option CapEntry)) (a : ℕ) → cap_of ps a ≡ option_and_then (λ p. option_map (λ e. e.amount) (get_or ps p None)) (position (names a) ps)
+cap_found ps a = go (position (names a) ps) refl
+  where
+    go : (o : Option ℕ) → position (names a) ps ≡ o → cap_of ps a ≡ option_and_then (λ p. option_map (λ e. e.amount) (get_or ps p None)) o
+    go None is = cap_none ps a (none_names ps a is)
+    go (Some p) is = let there = position-Some (names a) ps p None is in cap_first ps a p there.0 there.2 there.1

@@ -1,9 +1,9 @@
 // What is asked of the network below.
-ghost use Rattle.std.specs.Prelude.{◌≡◌, MatchOption};
+ghost use Rattle.std.specs.Prelude.{◌≡◌, position};
 ghost use Rattle.network.specs.Capped.{within, bounded};
-ghost use Rattle.caps.specs.Caps.{idle, Idles, Busy};
+ghost use Rattle.caps.specs.Caps.{idle};
 
-use crate::places::{CapEntry, PLACES};
+use crate::places::CapEntry;
 use crate::table::CapTable;
 use network::interface::Network;
 use network::road::Road;
@@ -12,40 +12,40 @@ use network::road::Road;
 pub fn may_carry(road: &Road, amount: u32) -> bool
     ensures { result ≡ within road.now amount }
 {
-    road.least <= amount && amount <= road.most
+    (road.least..=road.most).contains(&amount)
 }
 
 /// The road with the amount as its most, if it may carry that.
 pub fn bounded_by(amount: Option<u16>, road: Road) -> Road
     ensures { result ≡ bounded amount road }
 {
-    match amount {
-        Some(amount) if may_carry(&road, u32::from(amount)) => Road {
-            most: u32::from(amount),
-            ..road
-        },
+    match amount.map(u32::from) {
+        Some(most) if may_carry(&road, most) => Road { most, ..road },
         _ => road,
     }
 }
 
-/// Whether the entry caps nothing over the network.
-fn caps_nothing<N: Network>(below: &mut N, entry: CapEntry) -> bool
-    ensures value { result ≡ idle (N.Network.meaning below.old).roads entry }
+/// Whether the place is free, or its entry caps nothing over the network.
+fn is_idle<N: Network>(below: &mut N, place: Option<CapEntry>) -> bool
+    ensures value { result ≡ idle (N.Network.meaning below.old).roads place }
     ensures same { N.Network.meaning below.new ≡ N.Network.meaning below.old }
 {
-    match below.arc(usize::from(entry.arc)) {
-        Some(road) => !may_carry(&road, u32::from(entry.amount)),
-        None => true,
-    }
+    let Some(entry) = place else {
+        return true;
+    };
+    below
+        .arc(usize::from(entry.arc))
+        .is_none_or(|road| !may_carry(&road, u32::from(entry.amount)))
 }
 
-/// The lowest place whose entry caps nothing over the network.
+/// The lowest place that is free or whose entry caps nothing over the network.
 pub fn idle_place<N: Network>(below: &mut N, table: &CapTable) -> Option<usize>
-    ensures value { MatchOption result (Busy table.now.places.entries.items (N.Network.meaning below.old).roads) (Idles table.now.places.entries.items (N.Network.meaning below.old).roads) }
+    ensures value { result ≡ position (idle (N.Network.meaning below.old).roads) table.now }
     ensures same { N.Network.meaning below.new ≡ N.Network.meaning below.old }
 {
-    for place in 0..PLACES {
-        if caps_nothing(below, table.at(place)) {
+    // kept: `position` takes the closure that asks, and then no proof knows that the network it gives back means the same
+    for (place, entry) in table.places().iter().enumerate() {
+        if is_idle(below, *entry) {
             return Some(place);
         }
     }

@@ -3,7 +3,7 @@ ghost use Rattle.std.specs.Prelude.{◌≡◌, ◌<◌, true, Some};
 ghost use Rattle.std.specs.List.{slice_get};
 ghost use Rattle.network.specs.Capped.{within, capped};
 ghost use Rattle.network.proofs.Capped.{capped_lawful};
-ghost use Rattle.caps.specs.Caps.{cap_of, cap_fault, Recapped, Answers, Does, Means, Lowers};
+ghost use Rattle.caps.specs.Caps.{cap_of, cap_fault, place_for, IsTable, Recapped, Answers, Does, Means, Lowers};
 
 use crate::asks::{bounded_by, idle_place, may_carry};
 use crate::places::CapEntry;
@@ -32,10 +32,11 @@ impl<N> Cap<N> {
 }
 
 impl<N: Network> Network for Cap<N> {
-    ghost meaning = { λ s. capped (cap_of s.table.places.entries.items) (N.Network.meaning s.below) };
+    ghost meaning = { λ s. capped (cap_of s.table) (N.Network.meaning s.below) };
 
-    ghost laws = { λ s. capped_lawful (cap_of s.table.places.entries.items) (N.Network.meaning s.below) (N.Network.laws s.below) };
+    ghost laws = { λ s. capped_lawful (cap_of s.table) (N.Network.meaning s.below) (N.Network.laws s.below) };
 
+    #[tactic(auto, using(network::proofs::Capped::length_bounded))]
     fn size(&mut self) -> Size {
         self.below.size()
     }
@@ -44,11 +45,10 @@ impl<N: Network> Network for Cap<N> {
         self.below.stock(node)
     }
 
+    #[tactic(auto, using(network::proofs::Capped::nth_bounded))]
     fn arc(&mut self, arc: usize) -> Option<Road> {
-        match self.below.arc(arc) {
-            Some(road) => Some(bounded_by(self.table.amount(arc), road)),
-            None => None,
-        }
+        let cap = self.table.amount(arc);
+        self.below.arc(arc).map(|road| bounded_by(cap, road))
     }
 }
 
@@ -57,14 +57,12 @@ impl<N: Network> Cap<N> {
     ///
     /// Refused where there is no such arc below, where that arc may not carry the amount, or where every place caps another arc; then nothing changes.
     pub fn cap(&mut self, arc: usize, amount: u32) -> Result<(), Refusal>
-        ensures done { Does result (self.new.table ≡ self.old.table) self.old.table.places.entries.items self.new.table.places.entries.items (N.Network.meaning self.old.below).roads arc amount }
-        ensures meant { Means result (capped (cap_of self.old.table.places.entries.items) (N.Network.meaning self.old.below)) (capped (cap_of self.new.table.places.entries.items) (N.Network.meaning self.new.below)) (N.Network.meaning self.old.below).roads arc amount }
-        ensures answer { Answers result (cap_fault self.old.table.places.entries.items (N.Network.meaning self.old.below).roads arc amount) }
+        ensures done { let net = N.Network.meaning self.old.below in Does result self.old.table self.new.table net.roads arc amount }
+        ensures meant { let net = N.Network.meaning self.old.below in Means result (capped (cap_of self.old.table) net) (capped (cap_of self.new.table) (N.Network.meaning self.new.below)) net.roads arc amount }
+        ensures answer { let net = N.Network.meaning self.old.below in Answers result (cap_fault self.old.table net.roads arc amount) }
         ensures same { N.Network.meaning self.new.below ≡ N.Network.meaning self.old.below }
     {
-        let Some(road) = self.below.arc(arc) else {
-            return Err(Refusal::NoSuchArc);
-        };
+        let road = self.below.arc(arc).ok_or(Refusal::NoSuchArc)?;
         if !may_carry(&road, amount) {
             return Err(Refusal::CapRange);
         }
@@ -78,7 +76,7 @@ impl<N: Network> Cap<N> {
     /// Lifts the cap on the arc, if there is one.
     fn lift(&mut self, arc: usize, road: Road)
         requires { Some road ≡ slice_get (N.Network.meaning self.old.below).roads arc }
-        ensures table { Recapped self.old.table.places.entries.items self.new.table.places.entries.items (N.Network.meaning self.old.below).roads arc road.most road }
+        ensures table { Recapped self.old.table self.new.table (N.Network.meaning self.old.below).roads arc road.most road }
         ensures same { self.new.below ≡ self.old.below }
     {
         if let Some(place) = self.table.find(arc) {
@@ -86,28 +84,34 @@ impl<N: Network> Cap<N> {
         }
     }
 
-    /// Caps the arc below its most there, in the place of its cap or in the lowest whose entry caps nothing.
+    /// Caps the arc below its most there.
     fn lower(&mut self, arc: usize, amount: u32, road: Road) -> Result<(), Refusal>
         requires there { Some road ≡ slice_get (N.Network.meaning self.old.below).roads arc }
         requires fit { within road amount ≡ true }
         requires low { amount < road.most }
-        ensures done { Lowers result (self.new.table ≡ self.old.table) self.old.table.places.entries.items self.new.table.places.entries.items (N.Network.meaning self.old.below).roads arc amount road }
+        ensures done { Lowers result self.old.table self.new.table (N.Network.meaning self.old.below).roads arc amount road }
         ensures same { N.Network.meaning self.new.below ≡ N.Network.meaning self.old.below }
     {
-        if let Some(place) = self.table.find(arc) {
-            self.table.change(place, amount as u16);
-            return Ok(());
-        }
-        let Some(place) = idle_place(&mut self.below, &self.table) else {
-            return Err(Refusal::CapsFull);
+        let place = self.place_for(arc).ok_or(Refusal::CapsFull)?;
+        let entry = CapEntry {
+            arc: u16::try_from(arc).unwrap(),
+            amount: u16::try_from(amount).unwrap(),
         };
-        self.table.put(
-            place,
-            CapEntry {
-                arc: arc as u16,
-                amount: amount as u16,
-            },
-        );
+        self.table.put(place, entry);
         Ok(())
+    }
+
+    /// The place for a cap on the arc: its own, or the lowest that is free or whose entry caps nothing.
+    fn place_for(&mut self, arc: usize) -> Option<usize>
+        ensures value { result ≡ place_for self.old.table (N.Network.meaning self.old.below).roads arc }
+        ensures table { self.new.table ≡ self.old.table }
+        ensures kept { IsTable self.old.table }
+        ensures same { N.Network.meaning self.new.below ≡ N.Network.meaning self.old.below }
+    {
+        // kept: `or_else` takes the closure that asks, and then no proof knows that the network it gives back means the same
+        if let Some(place) = self.table.find(arc) {
+            return Some(place);
+        }
+        idle_place(&mut self.below, &self.table)
     }
 }

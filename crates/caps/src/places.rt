@@ -1,56 +1,69 @@
 // A plain row of places for caps, which lends one place at a time.
-ghost use Rattle.std.specs.Prelude.{◌≡◌, ◌<◌, replicate, IfOk, vec_len, slice_index_or};
-ghost use Rattle.std.specs.Borrow.{sem, follows};
-ghost use Rattle.std.specs.Vec.{with_item};
-ghost use Rattle.caps.specs.Caps.{place_count, free};
+ghost use Rattle.std.specs.Prelude.{◌≡◌, ◌<◌, ◌==◌, replicate, length, IfOk, None, slice_index_or, slice_set};
+ghost use Rattle.std.specs.Borrow.{Lends, sem};
+ghost use Rattle.std.specs.contracts.option.Option.{the_row as option_row};
+ghost use Rattle.caps.specs.Caps.{place_count};
 ghost use Rattle.caps.specs.contracts.places.Places.{the_row as places_row};
 ghost use Rattle.caps.specs.contracts.places.CapEntry.{the_row as entry_row};
 
 use std::alloc::{AllocError, Global};
+use std::marker::Model;
 
 /// An arc's number and the most that it may carry.
-#[derive(Clone, Copy)]
+#[derive(Clone, Copy, Debug, PartialEq, Eq)]
 pub struct CapEntry {
     pub arc: u16,
     pub amount: u16,
 }
 
+impl CapEntry {
+    /// Whether the entry is for this arc.
+    pub(crate) fn names(&self, arc: usize) -> bool
+        ensures { result ≡ (self.now.arc == arc) }
+    {
+        usize::from(self.arc) == arc
+    }
+}
+
 /// Places of a table.
 pub const PLACES: usize = 64;
 
-/// What stands in a free place. No network has an arc of this number.
-pub const FREE: CapEntry = CapEntry {
-    arc: 65_535,
-    amount: 0,
-};
-
-/// A row of places, all made at once, so that only making it can want memory.
+/// A row of places, each with an entry or free, all made at once, so that only making it can want memory.
 #[derive(Drop)]
 pub struct Places {
-    entries: Vec<CapEntry>,
+    entries: Vec<Option<CapEntry>>,
+}
+
+impl Model for Places {
+    ghost use Rattle.std.specs.Prelude.{List, Option};
+    ghost use Rattle.caps.specs.declared.places.CapEntry.{CapEntry};
+
+    ghost Value = { List (Option CapEntry) };
+
+    ghost view = { λ p. p.entries.items };
 }
 
 impl Places {
     /// A row whose places are all free.
     pub(crate) fn new(heap: Global) -> Result<Places, AllocError>
-        ensures { IfOk result (λ p. p.entries.items ≡ replicate place_count free) }
+        ensures { IfOk result (λ p. p ≡ replicate place_count None) }
     {
-        let entries = vec![in heap; FREE; PLACES]?;
+        let entries = vec![in heap; None; PLACES]?;
         Ok(Places { entries })
     }
 
-    /// The entries of all places, the lowest place first.
-    pub(crate) fn as_slice(&self) -> &[CapEntry]
-        ensures { result.now ≡ self.now.entries.items }
+    /// All places, the lowest first.
+    pub(crate) fn as_slice(&self) -> &[Option<CapEntry>]
+        ensures { result.now ≡ self.now }
     {
         self.entries.as_slice()
     }
 
-    /// Lends the entry of one place for change. Every other place stays.
-    pub(crate) fn entry(&mut self, place: usize) -> &mut CapEntry
-        requires { place < vec_len self.old.entries }
-        ensures* writes_back { sem 𝓛 (follows places_row entry_row self.entry.ghost_name result.ghost_name (λ w. record { entries = with_item self.old.entries place w })) }
-        ensures facts { result.now ≡ slice_index_or self.old.entries.items place result.now }
+    /// Lends one place for change. Every other place stays.
+    pub(crate) fn place_mut(&mut self, place: usize) -> &mut Option<CapEntry>
+        requires { place < length self.old }
+        ensures* writes_back { sem 𝓛 (Lends places_row (option_row entry_row) self.entry result (slice_set self.old place)) }
+        ensures facts { result.now ≡ slice_index_or self.old place result.now }
     {
         &mut self.entries[place]
     }

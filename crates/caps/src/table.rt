@@ -1,94 +1,122 @@
 // A table of caps, in which no arc stands twice.
-ghost use Rattle.std.specs.Prelude.{◌≡◌, ◌<◌, get_or, replicate, IfOk, vec_len, MatchBool, MatchOption, slice_index_or, slice_set};
-ghost use Rattle.caps.specs.Caps.{place_count, free, cap_of, Once, Unnamed, Names, Added, NoRoom};
+ghost use Rattle.std.specs.Prelude.{◌≡◌, ℕ, ◌<◌, true, length, replicate, IfOk, MatchResult, Some, slice_index_or, slice_set, position, is_none};
+ghost use Rattle.caps.specs.Caps.{place_count, names, cap_of, IsTable, Added, NotAdded, add_error_text};
 
-use crate::places::{CapEntry, FREE, Places};
+use crate::places::{CapEntry, Places};
 use std::alloc::{AllocError, Global};
+use std::error::Error;
+use std::fmt;
+use std::marker::Model;
+
+/// Why an entry was not added.
+#[derive(Clone, Copy, Debug, PartialEq, Eq)]
+pub enum AddError {
+    /// The arc has an entry already.
+    Named,
+    /// No place is free.
+    Full,
+}
+
+impl fmt::Display for AddError {
+    ghost output = { λ e. Some (add_error_text e) };
+
+    fn fmt<W: fmt::Write>(&self, f: &mut fmt::Formatter<W>) -> fmt::Result {
+        match self {
+            AddError::Named => write!(f, "the arc has an entry already"),
+            AddError::Full => write!(f, "no place is free"),
+        }
+    }
+}
+
+impl Error for AddError {}
 
 /// The caps of a layer, at most one for each arc.
 #[derive(Drop)]
 pub struct CapTable {
     places: Places,
-    ghost full: { vec_len places.entries ≡ place_count },
-    ghost once: { Once places.entries.items },
+}
+
+impl Model for CapTable {
+    ghost use Rattle.std.specs.Prelude.{List, Option};
+    ghost use Rattle.caps.specs.declared.places.CapEntry.{CapEntry};
+
+    ghost Value = { List (Option CapEntry) };
+
+    ghost use Rattle.caps.specs.Caps.{IsTable};
+
+    ghost view = { λ t. t.places };
+
+    ghost invariant = { λ t. IsTable t.places };
 }
 
 impl CapTable {
     /// A table without caps. Only this call can want memory.
     pub fn new(heap: Global) -> Result<CapTable, AllocError>
-        ensures { IfOk result (λ t. t.places.entries.items ≡ replicate place_count free) }
+        ensures { IfOk result (λ t. t ≡ replicate place_count None) }
     {
         let places = Places::new(heap)?;
         Ok(CapTable { places })
     }
 
-    /// Adds an entry for an arc that has none, in the lowest free place, and says whether it did. It may cap nothing.
-    pub fn add(&mut self, arc: u16, amount: u16) -> bool
-        ensures { MatchBool result (Added self.old.places.entries.items self.new.places.entries.items arc amount) ((self.new ≡ self.old) × NoRoom self.old.places.entries.items arc) }
+    /// Adds an entry for an arc that has none, in the lowest free place. It may cap nothing.
+    pub fn add(&mut self, entry: CapEntry) -> Result<(), AddError>
+        ensures { MatchResult result (λ _. Added self.old self.new entry) (λ e. (self.new ≡ self.old) × NotAdded self.old entry.arc e) }
     {
-        if self.find(usize::from(arc)).is_some() {
-            return false;
+        if self.find(usize::from(entry.arc)).is_some() {
+            return Err(AddError::Named);
         }
-        match self.find(usize::from(FREE.arc)) {
-            Some(place) => {
-                self.put(place, CapEntry { arc, amount });
-                true
-            }
-            None => false,
-        }
+        let place = self.free_place().ok_or(AddError::Full)?;
+        self.put(place, entry);
+        Ok(())
     }
 
-    /// The entry of a place.
-    pub(crate) fn at(&self, place: usize) -> CapEntry
-        requires { place < place_count }
-        ensures { result ≡ slice_index_or self.now.places.entries.items place free }
+    /// All places, the lowest first.
+    pub(crate) fn places(&self) -> &[Option<CapEntry>]
+        ensures { result.now ≡ self.now }
     {
-        self.places.as_slice()[place]
+        self.places.as_slice()
     }
 
     /// The lowest place whose entry names the arc.
     pub(crate) fn find(&self, arc: usize) -> Option<usize>
-        ensures { MatchOption result (Unnamed self.now.places.entries.items arc) (Names self.now.places.entries.items arc) }
+        ensures value { result ≡ position (names arc) self.now }
+        ensures kept { IsTable self.now }
     {
-        for (place, entry) in self.places.as_slice().iter().enumerate() {
-            if usize::from(entry.arc) == arc {
-                return Some(place);
-            }
-        }
-        None
+        self.places
+            .as_slice()
+            .iter()
+            .position(|place| place.is_some_and(|entry| entry.names(arc)))
+    }
+
+    /// The lowest free place.
+    fn free_place(&self) -> Option<usize>
+        ensures { result ≡ position is_none self.now }
+    {
+        self.places().iter().position(|place| place.is_none())
     }
 
     /// The cap on the arc, if the table has one.
     pub(crate) fn amount(&self, arc: usize) -> Option<u16>
-        ensures { result ≡ cap_of self.now.places.entries.items arc }
+        ensures { result ≡ cap_of self.now arc }
     {
-        match self.find(arc) {
-            Some(place) => Some(self.at(place).amount),
-            None => None,
-        }
-    }
-
-    /// Changes the amount of one entry, and no other.
-    pub(crate) fn change(&mut self, place: usize, amount: u16)
-        requires { place < place_count }
-        ensures { self.new.places.entries.items ≡ slice_set self.old.places.entries.items place (record { arc = (get_or self.old.places.entries.items place free).arc; amount = amount }) }
-    {
-        self.places.entry(place).amount = amount;
+        let place = self.find(arc)?;
+        self.places()[place].map(|entry| entry.amount)
     }
 
     /// Frees one place.
     pub(crate) fn clear(&mut self, place: usize)
-        requires { place < place_count }
-        ensures { self.new.places.entries.items ≡ slice_set self.old.places.entries.items place free }
+        requires { place < length self.old }
+        ensures { self.new ≡ slice_set self.old place None }
     {
-        *self.places.entry(place) = FREE;
+        *self.places.place_mut(place) = None;
     }
 
-    /// Puts a cap on an arc that has none into a place, over what stands there.
+    /// Puts a cap into a place, over what stands there, where no other place names its arc.
     pub(crate) fn put(&mut self, place: usize, entry: CapEntry)
-        requires { (place < place_count) × (Unnamed self.old.places.entries.items entry.arc) }
-        ensures { self.new.places.entries.items ≡ slice_set self.old.places.entries.items place entry }
+        requires fits { place < length self.old }
+        requires alone { (k : ℕ) → names entry.arc (slice_index_or self.old k None) ≡ true → k ≡ place }
+        ensures { self.new ≡ slice_set self.old place (Some entry) }
     {
-        *self.places.entry(place) = entry;
+        *self.places.place_mut(place) = Some(entry);
     }
 }

@@ -1,5 +1,5 @@
 // A network that changes when it is asked, and still means the same.
-ghost use Rattle.std.specs.Prelude.{◌≡◌};
+ghost use Rattle.std.specs.Prelude.{◌≡◌, ◌+◌, min};
 
 use network::interface::Network;
 use network::road::Road;
@@ -13,8 +13,9 @@ pub struct Counted<N> {
 }
 
 impl<N> Counted<N> {
+    /// The network, with no question asked.
     pub fn new(below: N) -> Counted<N>
-        ensures { result.below ≡ below }
+        ensures { result ≡ record { below = below; questions = 0 } }
     {
         Counted {
             below,
@@ -22,10 +23,18 @@ impl<N> Counted<N> {
         }
     }
 
+    /// How many questions were asked.
     pub fn questions(&self) -> u64
         ensures { result ≡ self.now.questions }
     {
         self.questions
+    }
+
+    fn count(&mut self)
+        ensures counted { self.new.questions ≡ min (self.old.questions + 1) u64.MAX }
+        ensures same { self.new.below ≡ self.old.below }
+    {
+        self.questions = self.questions.saturating_add(1);
     }
 }
 
@@ -35,17 +44,17 @@ impl<N: Network> Network for Counted<N> {
     ghost laws = { λ s. N.Network.laws s.below };
 
     fn size(&mut self) -> Size {
-        self.questions = self.questions.saturating_add(1);
+        self.count();
         self.below.size()
     }
 
     fn stock(&mut self, node: usize) -> Option<i64> {
-        self.questions = self.questions.saturating_add(1);
+        self.count();
         self.below.stock(node)
     }
 
     fn arc(&mut self, arc: usize) -> Option<Road> {
-        self.questions = self.questions.saturating_add(1);
+        self.count();
         self.below.arc(arc)
     }
 }

@@ -5,14 +5,16 @@ mod counted;
 
 use account::asked::account_of_network;
 use account::lines::account_lines;
-use anyhow::anyhow;
+use anyhow::{anyhow, ensure};
 use caps::layer::Cap;
-use caps::table::CapTable;
+use caps::places::CapEntry;
+use caps::table::{AddError, CapTable};
 use counted::Counted;
 use floors::floor::Floor;
 use grids::grid::Grid;
 use layers::exchange::Exchange;
 use network::interface::Network;
+use network::refusal::Refusal;
 use network::road::Road;
 use tables::held::Table;
 
@@ -90,33 +92,30 @@ fn table() -> Table<'static> {
 // The table with its second road capped at 1, its third capped and then lifted again, and a cap that is refused.
 fn capped(rt: &HostRuntime) -> anyhow::Result<Cap<Table<'static>>> {
     let mut cap = Cap::new(table(), CapTable::new(rt.alloc())?);
-    let set = cap.cap(1, 1).is_ok() && cap.cap(2, 0).is_ok() && cap.cap(2, 4).is_ok();
-    if set && cap.cap(3, 0).is_err() {
-        Ok(cap)
-    } else {
-        Err(anyhow!("another cap"))
+    for (arc, amount) in [(1, 1), (2, 0), (2, 4)] {
+        cap.cap(arc, amount)
+            .map_err(|refusal| anyhow!("{refusal}"))?;
     }
+    ensure!(cap.cap(3, 0) == Err(Refusal::CapRange), "another cap");
+    Ok(cap)
 }
 
 // Caps that name no arc, or more than the arc may carry.
 fn idle_caps(rt: &HostRuntime) -> anyhow::Result<CapTable> {
     let mut table = CapTable::new(rt.alloc())?;
-    if table.add(9, 0) && table.add(0, 3) && !table.add(9, 1) {
-        Ok(table)
-    } else {
-        Err(anyhow!("another table"))
-    }
+    table.add(CapEntry { arc: 9, amount: 0 })?;
+    table.add(CapEntry { arc: 0, amount: 3 })?;
+    let again = table.add(CapEntry { arc: 9, amount: 1 });
+    ensure!(again == Err(AddError::Named), "another table");
+    Ok(table)
 }
 
 fn show_grid(rt: &HostRuntime) -> anyhow::Result<()> {
-    match Grid::new(3, 3, 2) {
-        Ok(grid) => show(rt, "floor of grid", Floor::new(grid)),
-        Err(_) => Err(anyhow!("no grid")),
-    }
+    let grid = Grid::new(3, 3, 2).map_err(|_| anyhow!("no grid"))?;
+    show(rt, "floor of grid", Floor::new(grid))
 }
 
-fn show<N: Network + Drop>(rt: &HostRuntime, name: &str, network: N) -> anyhow::Result<()> {
-    let mut network = network;
+fn show<N: Network + Drop>(rt: &HostRuntime, name: &str, mut network: N) -> anyhow::Result<()> {
     show_asked(rt, name, &mut network)
 }
 

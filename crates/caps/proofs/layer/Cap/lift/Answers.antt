@@ -1,24 +1,16 @@
-use Rattle.std.proofs.Common.{◌≡◌, length, vec_items, sym, refl, subst, arith}
-use Rattle.caps.specs.Caps.{place_count, Recapped}
+use Rattle.std.proofs.Common.{sym, subst}
+use Rattle.caps.specs.Caps.{Recapped}
 use Rattle.caps.proofs.Changes.{kept, cleared}
 use Rattle.caps.proofs.layer.Cap.lift.Goals as goal
 
-pub returns-in-Some : goal.returns-in-Some
-returns-in-Some g c =
-    let es = vec_items c.args.self.now.table.places.entries in
-    let net = g.N.Network.meaning c.args.self.now.below in
-    let full : length es ≡ place_count = omega arith in
-    let few = (g.N.Network.laws c.args.self.now.below).arcs in
-    record {
-      table =
-          subst (λ left. Recapped es left net.roads c.args.arc c.args.road.most c.args.road) (sym c.clear.ensures)
-          (cleared es net.roads c.args.arc c.args.road c.args.road.most c.in-Some.place c.args.self.now.table.once full few (sym c.requires) refl c.in-Some.ensures);
-      same = refl;
-    }
+pub returns-in-Some-clause-table : goal.returns-in-Some-clause-table
+returns-in-Some-clause-table g c =
+    let ps = c.args.self.now.table in
+    let roads = (g.N.Network.meaning c.args.self.now.below).roads in
+    let road = c.args.road in
+    subst (λ left. Recapped ps left roads c.args.arc road.most road) (sym c.clear.ensures)
+    (cleared ps roads c.args.arc road c.in-Some.place c.in-Some.ensures.kept.once (sym c.requires) (sym c.in-Some.ensures.value))
 
-pub returns-in_default : goal.returns-in_default
-returns-in_default g c =
-    let es = vec_items c.args.self.now.table.places.entries in
-    let net = g.N.Network.meaning c.args.self.now.below in
-    let full : length es ≡ place_count = omega arith in
-    record { table = kept es net.roads c.args.arc c.args.road c.args.road.most full (sym c.requires) refl c.in_default.ensures; same = refl }
+pub returns-in_default-clause-table : goal.returns-in_default-clause-table
+returns-in_default-clause-table g c =
+    kept c.args.self.now.table (g.N.Network.meaning c.args.self.now.below).roads c.args.arc c.args.road (sym c.requires) (sym c.in_default.ensures.value)

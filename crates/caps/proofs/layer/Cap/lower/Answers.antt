@@ -1,70 +1,36 @@
-use Rattle.std.proofs.Common.{◌≡◌, length, get_or, vec_items, sym, refl, subst, arith}
-use Rattle.network.specs.Net.{node_count}
-use Rattle.network.specs.Roads.{Ranged}
-use Rattle.caps.specs.Caps.{place_count, free, Recapped}
-use Rattle.caps.proofs.Changes.{arc_small, road_of, changed, added, room_named, room_idle, room_none}
+use Rattle.std.proofs.Common.{◌≡◌, Some, sym, refl, ◌∙◌}
+use Rattle.std.proofs.lemmas.Result.{OkIff-at_ok}
+use Rattle.network.specs.declared.refusal.Refusal.TheVariants.{CapsFull}
+use Rattle.caps.specs.Caps.{place_for}
+use Rattle.caps.proofs.Rows.{no_value}
+use Rattle.caps.proofs.Changes.{taken_alone, lowered, room_taken, room_none}
 use Rattle.caps.proofs.layer.Cap.lower.Goals as goal
 
-pub overflow_cast-amount : goal.overflow_cast-amount
-overflow_cast-amount g c =
-    let net = g.N.Network.meaning c.args.self.now.below in
-    let few = g.N.Network.laws c.args.self.now.below in
-    let most = (road_of (Ranged (node_count net)) net.roads c.args.arc c.args.road few.ranged (sym c.requires.there)).most in
-    record { fits = omega arith }
+pub returns-in_err-place-clause-done : goal.returns-in_err-place-clause-done
+returns-in_err-place-clause-done g c =
+    let ps = c.args.self.now.table in
+    let roads = (g.N.Network.meaning c.args.self.now.below).roads in
+    let full = no_value c.place_for.result CapsFull _ _ c.from_residual.ensures.1 c.in_err-place.ensures.value in
+    rw full.1 (room_none ps roads c.args.arc c.place_for.ensures.kept.full (sym c.place_for.ensures.value ∙ full.0), (refl, refl), c.place_for.ensures.table)
 
-pub overflow_cast-amount-2 : goal.overflow_cast-amount-2
-overflow_cast-amount-2 g c =
-    let net = g.N.Network.meaning c.args.self.now.below in
-    let few = g.N.Network.laws c.args.self.now.below in
-    let most = (road_of (Ranged (node_count net)) net.roads c.args.arc c.args.road few.ranged (sym c.requires.there)).most in
-    record { fits = omega arith }
+pub put-requires-clause-alone : goal.put-requires-clause-alone
+put-requires-clause-alone g c =
+    let ps = c.args.self.now.table in
+    let roads = (g.N.Network.meaning c.args.self.now.below).roads in
+    let takes : place_for ps roads c.args.arc ≡ Some c.in_ok-place.place = sym c.place_for.ensures.value ∙ c.in_ok-place.ensures.ok_part in
+    let arc_is = (OkIff-at_ok c.try_from.result _ _ _ c.try_from.ensures c.unwrap.ensures).1 in
+    rw (arc_is, c.place_for.ensures.table) (taken_alone ps roads c.args.arc c.in_ok-place.place c.place_for.ensures.kept.once takes)
 
-pub overflow_cast-arc : goal.overflow_cast-arc
-overflow_cast-arc g c =
-    let net = g.N.Network.meaning c.args.self.now.below in
-    let few = g.N.Network.laws c.args.self.now.below in
-    let small = arc_small net.roads c.args.arc c.args.road few.arcs (sym c.requires.there) in
-    record { fits = omega arith }
-
-pub returns-in-Some : goal.returns-in-Some
-returns-in-Some g c =
-    let es = vec_items c.args.self.now.table.places.entries in
-    let net = g.N.Network.meaning c.args.self.now.below in
-    let full : length es ≡ place_count = omega arith in
-    let place = c.in-Some.place in
-    let named = c.in-Some.ensures in
-    record {
-      done = (
-        room_named es net.roads c.args.arc place full named,
-        subst (λ left. Recapped es left net.roads c.args.arc c.args.amount c.args.road) (sym c.change.ensures)
-            (changed es net.roads c.args.arc c.args.road c.args.amount place (record { arc = (get_or es place free).arc; amount = c.args.amount }) full (sym c.requires.there) c.requires.fit c.requires.low named named.1 refl),
-      );
-      same = refl;
-    }
-
-pub returns-in_default-idle_place : goal.returns-in_default-idle_place
-returns-in_default-idle_place g c =
-    let es = vec_items c.args.self.now.table.places.entries in
-    let net = g.N.Network.meaning c.args.self.now.below in
-    let full : length es ≡ place_count = omega arith in
-    record {
-      done = (room_none es net.roads c.args.arc full c.in_default.ensures c.in_default-idle_place.ensures.value, (refl, refl), refl);
-      same = c.idle_place.ensures.same;
-    }
-
-pub returns : goal.returns
-returns g c =
-    let es = vec_items c.args.self.now.table.places.entries in
-    let net = g.N.Network.meaning c.args.self.now.below in
-    let full : length es ≡ place_count = omega arith in
-    let few = (g.N.Network.laws c.args.self.now.below).arcs in
-    let place = c.in-Some-idle_place.place in
-    let idles = c.in-Some-idle_place.ensures.value in
-    record {
-      done = (
-        room_idle es net.roads c.args.arc place full idles,
-        subst (λ left. Recapped es left net.roads c.args.arc c.args.amount c.args.road) (sym c.put.ensures)
-            (added es net.roads c.args.arc c.args.road c.args.amount place (record { arc = c.args.arc; amount = c.args.amount }) c.args.self.now.table.once full few (sym c.requires.there) c.requires.fit c.requires.low c.in_default.ensures idles refl refl),
-      );
-      same = c.idle_place.ensures.same;
-    }
+pub returns-clause-done : goal.returns-clause-done
+returns-clause-done g c =
+    let ps = c.args.self.now.table in
+    let roads = (g.N.Network.meaning c.args.self.now.below).roads in
+    let place = c.in_ok-place.place in
+    let table = c.place_for.ensures.kept in
+    let takes : place_for ps roads c.args.arc ≡ Some place = sym c.place_for.ensures.value ∙ c.in_ok-place.ensures.ok_part in
+    let arc_is = (OkIff-at_ok c.try_from.result _ _ _ c.try_from.ensures c.unwrap.ensures).1 in
+    let amount_is = (OkIff-at_ok c.try_from-2.result _ _ _ c.try_from-2.ensures c.unwrap-2.ensures).1 in (
+      room_taken ps roads c.args.arc place table.full takes,
+      rw (c.put.ensures, arc_is, amount_is, c.place_for.ensures.table)
+          (lowered ps roads c.args.arc c.args.road c.args.amount place table.once (sym c.requires.there) c.requires.fit c.requires.low takes),
+    )

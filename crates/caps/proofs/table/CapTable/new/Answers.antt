@@ -1,11 +1,7 @@
-use Rattle.std.proofs.Common.{◌≡◌, length, vec_len, sym, ap, subst, arith}
-use Rattle.std.proofs.lemmas.List.{length-replicate}
-use Rattle.caps.specs.Caps.{place_count, free, Once}
-use Rattle.caps.proofs.Rows.{once_free}
+use Rattle.std.proofs.Common.{sym, subst}
+use Rattle.caps.specs.Caps.{IsTable}
+use Rattle.caps.proofs.Rows.{table_free}
 use Rattle.caps.proofs.table.CapTable.new.Goals as goal
 
 pub invariant_of-result : goal.invariant_of-result
-invariant_of-result c =
-    let e = c.in_ok-places.ensures in
-    let full : vec_len c.in_ok-places.places.entries ≡ place_count = omega (arith, ap length e, length-replicate place_count free) in
-    record { full = full; once = subst Once (sym e) (once_free place_count) }
+invariant_of-result c = subst IsTable (sym c.in_ok-places.ensures) table_free
