@@ -13,8 +13,6 @@ use crate::size::Size;
 pub trait Network {
     ghost meaning: { Self → Net };
 
-    ghost laws: { (s : Self) → Lawful (meaning s) };
-
     /// The numbers of nodes and arcs, and the fixed costs.
     fn size(&mut self) -> Size
         ensures value { result ≡ size_of (meaning self.old) }
@@ -29,4 +27,6 @@ pub trait Network {
     fn arc(&mut self, arc: usize) -> Option<Road>
         ensures value { result ≡ slice_get (meaning self.old).roads arc }
         ensures same { meaning self.new ≡ meaning self.old };
+
+    ghost laws: { (s : Self) → Lawful (meaning s) };
 }

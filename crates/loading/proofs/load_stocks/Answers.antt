@@ -37,4 +37,4 @@ returns g c =
 pub narrow-requires : goal.narrow-requires
 narrow-requires g c =
     let f : SFits w64 c.in-Some.stock = search rules in
-    subst (λ z. nat_abs z ≤ max_node) (sym (to_z-of_z w64 c.in-Some.stock f)) (stock_within (g.N.Network.meaning c.loop-i.network) c.loop-i.i c.in-Some.stock (g.N.Network.laws c.loop-i.network) c.in-Some.ensures.value)
+    subst (λ z. nat_abs z ≤ max_node) (sym (to_z-of_z w64 c.in-Some.stock f)) (stock_within (g.N.Network.meaning c.loop-i.network) c.loop-i.i c.in-Some.stock (g.met.N.Network.laws c.loop-i.network) c.in-Some.ensures.value)

@@ -7,7 +7,7 @@ use Rattle.floors.proofs.sums.least_costs.Goals as goal
 pub overflow_add-first : goal.overflow_add-first
 overflow_add-first g c =
     let n = g.N.Network.meaning c.args.network.now
-    in let h = g.N.Network.laws c.args.network.now
+    in let h = g.met.N.Network.laws c.args.network.now
     in let e = c.road_of-road.ensures.value ∙ ap (λ m. slice_get m.roads c.loop-i.i) c.loop-i.invariant.0
     in let more = cost_more (λ r. r.first) n.roads c.loop-i.i c.road_of-road.result e
     in let near = cost_near (λ r. r.first) (λ r. refl) n.roads h.passable _ h.first (c.loop-i.i + 1)
@@ -16,7 +16,7 @@ overflow_add-first g c =
 pub overflow_add-second : goal.overflow_add-second
 overflow_add-second g c =
     let n = g.N.Network.meaning c.args.network.now
-    in let h = g.N.Network.laws c.args.network.now
+    in let h = g.met.N.Network.laws c.args.network.now
     in let e = c.road_of-road.ensures.value ∙ ap (λ m. slice_get m.roads c.loop-i.i) c.loop-i.invariant.0
     in let more = cost_more (λ r. r.second) n.roads c.loop-i.i c.road_of-road.result e
     in let near = cost_near (λ r. r.second) (λ r. refl) n.roads h.passable _ h.second (c.loop-i.i + 1)
@@ -25,7 +25,7 @@ overflow_add-second g c =
 pub loop-i-preserved : goal.loop-i-preserved
 loop-i-preserved g c =
     let n = g.N.Network.meaning c.args.network.now
-    in let h = g.N.Network.laws c.args.network.now
+    in let h = g.met.N.Network.laws c.args.network.now
     in let e = c.road_of-road.ensures.value ∙ ap (λ m. slice_get m.roads c.loop-i.i) c.loop-i.invariant.0
     in let more = cost_more (λ r. r.first) n.roads c.loop-i.i c.road_of-road.result e
     in let more' = cost_more (λ r. r.second) n.roads c.loop-i.i c.road_of-road.result e

@@ -12,7 +12,7 @@ overflow_add-sum g c =
     let n = g.N.Network.meaning c.args.network.now
     in let e = c.road_of-road.ensures.value ∙ ap (λ m. slice_get m.roads c.loop-i.i) c.loop-i.invariant.0
     in let more = leasts_more c.args.end c.args.node n.roads c.loop-i.i c.road_of-road.result e
-    in let low = leasts_low c.args.end c.args.node n (g.N.Network.laws c.args.network.now)
+    in let low = leasts_low c.args.end c.args.node n (g.met.N.Network.laws c.args.network.now)
     in let part = sum_by-take-le (λ r. cond (eqb (end_node c.args.end r) c.args.node) r.least 0) n.roads (c.loop-i.i + 1)
     in grind (arith, nat_tests)
 

@@ -17,7 +17,7 @@ moved g c = (
 pub overflow_add-result : goal.overflow_add-result
 overflow_add-result g c =
     let n = g.N.Network.meaning c.args.network.now
-    in let h = g.N.Network.laws c.args.network.now
+    in let h = g.met.N.Network.laws c.args.network.now
     in let parts = moved g c
     in let near = stock_near n h c.args.node c.args.stock c.requires
     in let out = leasts_low Tail c.args.node n h
@@ -27,7 +27,7 @@ overflow_add-result g c =
 pub returns-clause-value : goal.returns-clause-value
 returns-clause-value g c =
     let n = g.N.Network.meaning c.args.network.now
-    in let h = g.N.Network.laws c.args.network.now
+    in let h = g.met.N.Network.laws c.args.network.now
     in let parts = moved g c
     in let near = stock_near n h c.args.node c.args.stock c.requires
     in let out = leasts_low Tail c.args.node n h

@@ -6,7 +6,7 @@ use Rattle.floors.proofs.floor.FloorNetwork.size.Goals as goal
 
 pub overflow_add-result : goal.overflow_add-result
 overflow_add-result g c =
-    let h = floored_lawful (g.N.Network.meaning c.args.self.now.below) (g.N.Network.laws c.args.self.now.below)
+    let h = floored_lawful (g.N.Network.meaning c.args.self.now.below) (g.met.N.Network.laws c.args.self.now.below)
     in let fixed = ap (λ s. s.fixed.0) c.size-size.ensures.value
     in let cost = (costs_of (g.N.Network.meaning c.args.self.now.below) _ c.least_costs-first.result c.least_costs-first.ensures.value c.size-size.ensures.same).0
     in let near = h.first
@@ -14,7 +14,7 @@ overflow_add-result g c =
 
 pub overflow_add-result-2 : goal.overflow_add-result-2
 overflow_add-result-2 g c =
-    let h = floored_lawful (g.N.Network.meaning c.args.self.now.below) (g.N.Network.laws c.args.self.now.below)
+    let h = floored_lawful (g.N.Network.meaning c.args.self.now.below) (g.met.N.Network.laws c.args.self.now.below)
     in let fixed = ap (λ s. s.fixed.1) c.size-size.ensures.value
     in let cost = (costs_of (g.N.Network.meaning c.args.self.now.below) _ c.least_costs-first.result c.least_costs-first.ensures.value c.size-size.ensures.same).1
     in let near = h.second
@@ -23,7 +23,7 @@ overflow_add-result-2 g c =
 pub returns-clause-value : goal.returns-clause-value
 returns-clause-value g c =
     let n = g.N.Network.meaning c.args.self.now.below
-    in let h = floored_lawful n (g.N.Network.laws c.args.self.now.below)
+    in let h = floored_lawful n (g.met.N.Network.laws c.args.self.now.below)
     in let fixed = ap (λ s. s.fixed) c.size-size.ensures.value
     in let cost = costs_of n _ c.least_costs-first.result c.least_costs-first.ensures.value c.size-size.ensures.same
     in size_is n c.size-size.result _ _ c.size-size.ensures.value (grind (arith, ints, to_z-of_z, h.first)) (grind (arith, ints, to_z-of_z, h.second))
