@@ -1,6 +1,6 @@
 // The account of roads and stocks.
 ghost use Rattle.std.specs.Prelude.{◌≡◌, ℕ, ◌*◌, sum_by, unsigned_abs};
-ghost use Rattle.account.specs.Accounts.{account_of, nodes_offering, nodes_wanting};
+ghost use Rattle.account.specs.Accounts.{account_of};
 
 use crate::account::Account;
 use network::road::Road;

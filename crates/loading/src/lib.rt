@@ -38,8 +38,8 @@ fn fill<N: Network, T: Entry>(network: &mut N, row: &mut [T])
     ensures same { N.Network.meaning network.new ≡ N.Network.meaning network.old }
     ensures after { row.new ≡ T.entries (N.Network.meaning network.old) }
 {
-    for i in 0..row.len() {
-        row[i] = T::entry(network, i);
+    for (i, entry) in row.iter_mut().enumerate() {
+        *entry = T::entry(network, i);
     }
 }
 

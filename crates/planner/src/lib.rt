@@ -16,13 +16,14 @@ use std::alloc::{AllocError, Global};
 use std::io::Read;
 use text::{Sizes, read};
 
-// One byte more than a text may have is enough to refuse it.
+// One byte more than a text may have is enough to refuse it. The cast stays, since a constant calls no function.
 const ENOUGH: u64 = MAX_TEXT as u64 + 1;
 
 /// The account of the consignment that `text` is, or the line of its first fault.
 pub fn answer(heap: Global, text: &[u8]) -> Result<String, AllocError>
     ensures { IfOk result (λ s. Answers text.now (string_bytes s)) }
 {
+    // kept: arrays with a count for each, since the reader of texts fills a caller's rows.
     let mut roads = [Road::default(); MAX_ARCS];
     let mut stocks = [0; MAX_NODES];
     match read(text, &mut roads, &mut stocks) {
