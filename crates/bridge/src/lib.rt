@@ -1,5 +1,9 @@
-// The reader of texts behind a C interface. It is only for the comparison in compare/: no contract says what it answers.
+// The reader of texts behind a C interface, for the comparison in compare/.
 #![tactic(auto)]
+
+ghost use Rattle.std.specs.Prelude.{◌≡◌};
+ghost use Rattle.text.specs.Reader.{Answered};
+ghost use Rattle.bridge.specs.Outcomes.{outcome_of};
 
 use network::refusal::Refusal;
 use network::road::Road;
@@ -17,6 +21,8 @@ pub struct Outcome {
 }
 
 impl From<Result<Sizes, Refusal>> for Outcome {
+    ghost from_gives = { λ r o. o ≡ outcome_of r };
+
     fn from(read: Result<Sizes, Refusal>) -> Outcome {
         match read {
             Ok(Sizes { nodes, arcs }) => Outcome {
@@ -37,6 +43,8 @@ impl From<Result<Sizes, Refusal>> for Outcome {
 
 /// `text::read`, on rows in the layout of C.
 #[unsafe(no_mangle)]
-pub extern "C" fn corners_read(text: &[u8], roads: &mut [Road], stocks: &mut [i32]) -> Outcome {
+pub extern "C" fn corners_read(text: &[u8], roads: &mut [Road], stocks: &mut [i32]) -> Outcome
+    ensures { (r : _) × Answered text.now roads.old stocks.old r roads.new stocks.new × (result ≡ outcome_of r) }
+{
     Outcome::from(read(text, roads, stocks))
 }
