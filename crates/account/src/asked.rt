@@ -1,6 +1,5 @@
 // The account of any network, by asking it.
-ghost use Rattle.std.specs.Prelude.{◌≡◌, length};
-ghost use Rattle.network.specs.Limits.{max_nodes, max_arcs};
+ghost use Rattle.std.specs.Prelude.{◌≡◌};
 ghost use Rattle.account.specs.Accounts.{account_of};
 
 use crate::account::Account;
@@ -15,26 +14,10 @@ pub fn account_of_network<N: Network>(network: &mut N) -> Account
     ensures value { result ≡ account_of (N.Network.meaning network.old).roads (N.Network.meaning network.old).stocks }
     ensures same { N.Network.meaning network.new ≡ N.Network.meaning network.old }
 {
-    let none = Road {
-        tail: 0,
-        head: 0,
-        least: 0,
-        most: 0,
-        first: 0,
-        second: 0,
-    };
-    let mut roads = [none; MAX_ARCS];
+    // kept: arrays with a count for each, since no heap is used here and the loaders fill a caller's rows.
+    let mut roads = [Road::default(); MAX_ARCS];
     let mut stocks = [0; MAX_NODES];
-    account_by(network, &mut roads, &mut stocks)
-}
-
-// The same by way of rows that have room for every network.
-fn account_by<N: Network>(network: &mut N, roads: &mut [Road], stocks: &mut [i32]) -> Account
-    requires { (length roads.old ≡ max_arcs) × (length stocks.old ≡ max_nodes) }
-    ensures value { result ≡ account_of (N.Network.meaning network.old).roads (N.Network.meaning network.old).stocks }
-    ensures same { N.Network.meaning network.new ≡ N.Network.meaning network.old }
-{
-    let arcs = load_roads(network, roads);
-    let nodes = load_stocks(network, stocks);
-    account_of(&roads[0..arcs], &stocks[0..nodes])
+    let arcs = load_roads(network, &mut roads);
+    let nodes = load_stocks(network, &mut stocks);
+    account_of(&roads[..arcs], &stocks[..nodes])
 }

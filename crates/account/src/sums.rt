@@ -1,7 +1,6 @@
-// The account of roads and stocks. No sum passes 128 bits: a row has fewer than 2^64 entries, and each adds at most 2^63.
-ghost use Rattle.std.specs.Prelude.{◌≡◌};
-ghost use Rattle.network.specs.Net.{reach_of};
-ghost use Rattle.account.specs.Accounts.{chests_offered, chests_wanted, nodes_offering, nodes_wanting, account_of};
+// The account of roads and stocks.
+ghost use Rattle.std.specs.Prelude.{◌≡◌, ℕ, ◌*◌, sum_by, unsigned_abs};
+ghost use Rattle.account.specs.Accounts.{account_of};
 
 use crate::account::Account;
 use network::road::Road;
@@ -13,72 +12,28 @@ pub fn account_of(roads: &[Road], stocks: &[i32]) -> Account
     Account {
         nodes: stocks.len(),
         arcs: roads.len(),
-        offered: offered(stocks),
-        wanted: wanted(stocks),
-        offering: offering(stocks),
-        wanting: wanting(stocks),
-        reach: reach(roads),
+        offered: total(stocks, |&stock| u64::from(stock.max(0).unsigned_abs())),
+        wanted: total(stocks, |&stock| u64::from(stock.min(0).unsigned_abs())),
+        offering: stocks.iter().filter(|&&stock| stock > 0).count(),
+        wanting: stocks.iter().filter(|&&stock| stock < 0).count(),
+        reach: (
+            total(roads, |road| span(road.most, road.first)),
+            total(roads, |road| span(road.most, road.second)),
+        ),
     }
 }
 
-// The chests of the nodes that offer some.
-fn offered(stocks: &[i32]) -> u128
-    ensures { result ≡ chests_offered stocks.now }
+// The sum of what each entry adds. It fits: a row has fewer than 2^64 entries.
+fn total<T, F: Fn(&T) -> u64>(row: &[T], adds: F) -> u128
+    requires { F.IsAlwaysCallable adds }
+    ensures { (f : T → ℕ) → ((x : _) (n : ℕ) → F.post adds x n → n ≡ f x.now) → result ≡ sum_by f row.now }
 {
-    let mut sum: u128 = 0;
-    for stock in stocks {
-        sum += u128::from((*stock).max(0).unsigned_abs());
-    }
-    sum
+    row.iter().map(|entry| u128::from(adds(entry))).sum()
 }
 
-// The chests that the other nodes want.
-fn wanted(stocks: &[i32]) -> u128
-    ensures { result ≡ chests_wanted stocks.now }
+// A most times the distance of a cost from zero.
+fn span(most: u32, cost: i32) -> u64
+    ensures { result ≡ most * unsigned_abs cost }
 {
-    let mut sum: u128 = 0;
-    for stock in stocks {
-        sum += u128::from((*stock).min(0).unsigned_abs());
-    }
-    sum
-}
-
-// How many nodes offer chests.
-fn offering(stocks: &[i32]) -> usize
-    ensures { result ≡ nodes_offering stocks.now }
-{
-    let mut count = 0;
-    for stock in stocks {
-        if *stock > 0 {
-            count += 1;
-        }
-    }
-    count
-}
-
-// How many nodes want some.
-fn wanting(stocks: &[i32]) -> usize
-    ensures { result ≡ nodes_wanting stocks.now }
-{
-    let mut count = 0;
-    for stock in stocks {
-        if *stock < 0 {
-            count += 1;
-        }
-    }
-    count
-}
-
-// For each cost, the sum over the roads of its distance from zero times the road's most.
-fn reach(roads: &[Road]) -> (u128, u128)
-    ensures { result ≡ (reach_of (λ e. e.first) roads.now, reach_of (λ e. e.second) roads.now) }
-{
-    let mut first: u128 = 0;
-    let mut second: u128 = 0;
-    for road in roads {
-        let most = u128::from(road.most);
-        first += most * u128::from(road.first.unsigned_abs());
-        second += most * u128::from(road.second.unsigned_abs());
-    }
-    (first, second)
+    u64::from(most) * u64::from(cost.unsigned_abs())
 }

@@ -6,39 +6,19 @@ use std::test::Fail;
 
 #[test]
 fn lines_of_an_account(rt: HostRuntime) -> Result<(), Fail> {
+    let road = |tail, head, most, first, second| Road {
+        tail,
+        head,
+        least: 0,
+        most,
+        first,
+        second,
+    };
     let roads = [
-        Road {
-            tail: 0,
-            head: 2,
-            least: 0,
-            most: 2,
-            first: 2,
-            second: 9,
-        },
-        Road {
-            tail: 0,
-            head: 1,
-            least: 0,
-            most: 4,
-            first: 1,
-            second: 4,
-        },
-        Road {
-            tail: 1,
-            head: 2,
-            least: 0,
-            most: 4,
-            first: 3,
-            second: 0,
-        },
-        Road {
-            tail: 0,
-            head: 2,
-            least: 0,
-            most: 2,
-            first: 9,
-            second: 1,
-        },
+        road(0, 2, 2, 2, 9),
+        road(0, 1, 4, 1, 4),
+        road(1, 2, 4, 3, 0),
+        road(0, 2, 2, 9, 1),
     ];
     let account = account_of(&roads, &[3, 0, -3]);
     let text = account_lines(rt.alloc(), &account)?;

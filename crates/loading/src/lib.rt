@@ -1,9 +1,9 @@
 // Copying what a network means into rows, by asking.
 #![tactic(auto)]
 
-ghost use Rattle.std.specs.Prelude.{◌≡◌, ◌≤◌, ◌++◌, length, drop, unsigned_abs};
-ghost use Rattle.network.specs.Limits.{max_node};
-ghost use Rattle.network.specs.Net.{node_count, arc_count};
+ghost use Rattle.std.specs.Prelude.{◌≡◌, ◌<◌, ◌≤◌, ◌++◌, List, length, drop, Some};
+ghost use Rattle.std.specs.List.{slice_get};
+ghost use Rattle.network.specs.Net.{Net, node_count, arc_count};
 
 use network::interface::Network;
 use network::road::Road;
@@ -16,11 +16,7 @@ pub fn load_roads<N: Network>(network: &mut N, row: &mut [Road]) -> usize
     ensures after { row.new ≡ (N.Network.meaning network.old).roads ++ drop result row.old }
 {
     let arcs = network.size().arcs;
-    for i in 0..arcs {
-        if let Some(road) = network.arc(i) {
-            row[i] = road;
-        }
-    }
+    fill(network, &mut row[..arcs]);
     arcs
 }
 
@@ -32,18 +28,45 @@ pub fn load_stocks<N: Network>(network: &mut N, row: &mut [i32]) -> usize
     ensures after { row.new ≡ (N.Network.meaning network.old).stocks ++ drop result row.old }
 {
     let nodes = network.size().nodes;
-    for i in 0..nodes {
-        if let Some(stock) = network.stock(i) {
-            row[i] = narrow(stock);
-        }
-    }
+    fill(network, &mut row[..nodes]);
     nodes
 }
 
-// A stock in 32 bits, where it is within the law of its node.
-fn narrow(stock: i64) -> i32
-    requires { unsigned_abs stock ≤ max_node }
-    ensures { result ≡ stock }
+// Fills a row with all that a network has of one kind, asked for one by one.
+fn fill<N: Network, T: Entry>(network: &mut N, row: &mut [T])
+    requires { length row.old ≡ length (T.entries (N.Network.meaning network.old)) }
+    ensures same { N.Network.meaning network.new ≡ N.Network.meaning network.old }
+    ensures after { row.new ≡ T.entries (N.Network.meaning network.old) }
 {
-    stock as i32
+    for (i, entry) in row.iter_mut().enumerate() {
+        *entry = T::entry(network, i);
+    }
+}
+
+// What a network has one of for each node or each arc.
+trait Entry: Copy {
+    ghost entries: { Net → List Self };
+
+    fn entry<N: Network>(network: &mut N, i: usize) -> Self
+        requires { i < length (entries (N.Network.meaning network.old)) }
+        ensures value { slice_get (entries (N.Network.meaning network.old)) i ≡ Some result }
+        ensures same { N.Network.meaning network.new ≡ N.Network.meaning network.old };
+}
+
+impl Entry for Road {
+    ghost entries = { λ n. n.roads };
+
+    fn entry<N: Network>(network: &mut N, i: usize) -> Road {
+        network.arc(i).unwrap()
+    }
+}
+
+// A stock is within the law of its node, so it fits in 32 bits.
+impl Entry for i32 {
+    ghost entries = { λ n. n.stocks };
+
+    fn entry<N: Network>(network: &mut N, i: usize) -> i32 {
+        let stock = network.stock(i).unwrap();
+        i32::try_from(stock).unwrap()
+    }
 }

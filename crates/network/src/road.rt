@@ -6,6 +6,7 @@ ghost use Rattle.network.specs.Tested.{is_passable};
 /// A road for chests, the data of an arc: from `tail` to `head` it carries from `least` to `most` chests, each at two costs.
 ///
 /// The default is a road that carries nothing, from the first node to itself.
+#[repr(C)]
 #[derive(Clone, Copy, Debug, Default, PartialEq, Eq)]
 pub struct Road {
     pub tail: u32,

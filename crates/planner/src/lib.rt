@@ -4,50 +4,41 @@
 #[cfg(test)]
 mod tests;
 
-ghost use Rattle.std.specs.Prelude.{◌≡◌, length, IfOk, string_bytes};
-ghost use Rattle.network.specs.Limits.{max_nodes, max_arcs};
+ghost use Rattle.std.specs.Prelude.{◌≡◌, IfOk, IfSome, string_bytes};
 ghost use Rattle.planner.specs.Answer.{Answers};
 
 use account::lines::account_lines;
 use account::sums::account_of;
-use network::limits::{MAX_ARCS, MAX_NODES};
+use network::limits::{MAX_ARCS, MAX_NODES, MAX_TEXT};
 use network::road::Road;
 use print::refused::refusal_line;
 use std::alloc::{AllocError, Global};
+use std::io::Read;
 use text::{Sizes, read};
+
+// One byte more than a text may have is enough to refuse it. The cast stays, since a constant calls no function.
+const ENOUGH: u64 = MAX_TEXT as u64 + 1;
 
 /// The account of the consignment that `text` is, or the line of its first fault.
 pub fn answer(heap: Global, text: &[u8]) -> Result<String, AllocError>
     ensures { IfOk result (λ s. Answers text.now (string_bytes s)) }
 {
-    let none = Road {
-        tail: 0,
-        head: 0,
-        least: 0,
-        most: 0,
-        first: 0,
-        second: 0,
-    };
-    let mut roads = [none; MAX_ARCS];
+    // kept: arrays with a count for each, since the reader of texts fills a caller's rows.
+    let mut roads = [Road::default(); MAX_ARCS];
     let mut stocks = [0; MAX_NODES];
-    answer_by(heap, text, &mut roads, &mut stocks)
-}
-
-// The same by way of rows that have room for every text.
-fn answer_by(
-    heap: Global,
-    text: &[u8],
-    roads: &mut [Road],
-    stocks: &mut [i32],
-) -> Result<String, AllocError>
-    requires { (length roads.old ≡ max_arcs) × (length stocks.old ≡ max_nodes) }
-    ensures { IfOk result (λ s. Answers text.now (string_bytes s)) }
-{
-    match read(text, roads, stocks) {
-        Ok(Sizes { nodes, arcs }) => account_lines(
-            heap,
-            &account_of(&roads[0..arcs], &stocks[0..nodes]),
-        ),
+    match read(text, &mut roads, &mut stocks) {
+        Ok(Sizes { nodes, arcs }) => {
+            account_lines(heap, &account_of(&roads[..arcs], &stocks[..nodes]))
+        }
         Err(refusal) => refusal_line(heap, refusal),
     }
+}
+
+/// The answer to the text that `source` has, of which it reads as much as the answer needs.
+pub fn answer_from<R: Read + Drop>(heap: Global, source: R) -> anyhow::Result<String>
+    ensures { IfOk result (λ s. IfSome (R.remaining source) (λ text. Answers text (string_bytes s))) }
+{
+    let mut text = Vec::new(heap);
+    source.take(ENOUGH).read_to_end(&mut text)?;
+    Ok(answer(heap, &text)?)
 }

@@ -1,5 +1,5 @@
 // A worked text, a text for each fault, and what reading leaves in the rows.
-use crate::answer;
+use crate::{answer, answer_from};
 use network::limits::MAX_TEXT;
 use network::refusal::Refusal;
 use network::road::Road;
@@ -48,6 +48,19 @@ fn faults(rt: HostRuntime) -> Result<(), Fail> {
 }
 
 #[test]
+fn texts_of_readers(rt: HostRuntime) -> Result<(), Fail> {
+    let plain = answer_from(rt.alloc(), b"(net 1 0)\n(stock 0 1)\n".as_slice())?;
+    let lines = "(nodes 1)\n(arcs 0)\n(offered 1 1)\n(wanted 0 0)\n(balanced no)\n(reach 0 0)\n";
+    assert_eq!(rt; plain.as_str(), lines);
+    let long = [b'('; TOO_LONG];
+    let refused = answer_from(rt.alloc(), long.as_slice())?;
+    assert_eq!(rt; refused.as_str(), "(refused 9)\n");
+    let short = answer_from(rt.alloc(), &long[1..])?;
+    assert_eq!(rt; short.as_str(), "(refused 10 65536)\n");
+    Ok(())
+}
+
+#[test]
 fn rows(rt: HostRuntime) {
     let text = b"(net 2 1)\n(stock 1 5)\n(arc (0 1) (0 2) (3 -4))\n";
     let old = Road {
@@ -59,26 +72,25 @@ fn rows(rt: HostRuntime) {
         second: 9,
     };
     let new = Road {
-        tail: 0,
         head: 1,
-        least: 0,
         most: 2,
         first: 3,
         second: -4,
+        ..Road::default()
     };
     let mut roads = [old; 2];
     let mut stocks = [7; 3];
     assert_eq!(rt;
-        read(text, &mut roads[0..0], &mut stocks),
+        read(text, &mut roads[..0], &mut stocks),
         Err(Refusal::TextRows)
     );
     assert_eq!(rt;
-        read(text, &mut roads, &mut stocks[0..1]),
+        read(text, &mut roads, &mut stocks[..1]),
         Err(Refusal::TextRows)
     );
     // The last byte is missing, so all but one line has been read.
     assert_eq!(rt;
-        read(&text[0..46], &mut roads, &mut stocks),
+        read(&text[..46], &mut roads, &mut stocks),
         Err(Refusal::Form(46))
     );
     assert_eq!(rt; roads, [old, old]);

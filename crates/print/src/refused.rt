@@ -9,9 +9,5 @@ use std::alloc::{AllocError, Global};
 pub fn refusal_line(heap: Global, refusal: Refusal) -> Result<String, AllocError>
     ensures { IfOk result (λ s. string_bytes s ≡ refusal_line refusal) }
 {
-    let number = refusal.number();
-    match refusal.place() {
-        Some(place) => format!(in heap; "(refused {number} {place})\n"),
-        None => format!(in heap; "(refused {number})\n"),
-    }
+    format!(in heap; "{refusal}\n")
 }

@@ -13,6 +13,6 @@ pub fn put_line(row: &mut [u8], line: &[u8]) -> Result<usize, Refusal>
     if row.len() < line.len() {
         return Err(Refusal::LineRow);
     }
-    row[0..line.len()].copy_from_slice(line);
+    row[..line.len()].copy_from_slice(line);
     Ok(line.len())
 }

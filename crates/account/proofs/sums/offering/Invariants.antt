@@ -1,7 +1,0 @@
-use Rattle.std.proofs.Common.{cond, pos}
-use lib.Signed.{lt_z}
-use Rattle.account.proofs.Totals.{SoFar}
-use Rattle.account.proofs.sums.offering.Given as goal
-
-abbrev pub invariant-loop-stock : goal.invariant-loop-stock
-invariant-loop-stock l = SoFar (λ z. cond (lt_z (pos 0) z) 1 0) 1 l.stocks l.stock-index l.count
