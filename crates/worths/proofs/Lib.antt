@@ -4,4 +4,3 @@ pub mod Fitting
 pub mod Parts
 pub mod Heights
 pub mod Falling
-pub mod Compared

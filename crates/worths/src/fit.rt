@@ -6,7 +6,7 @@ ghost use Rattle.worths.specs.Values.{NearPair, wrapped_pair, row_of, max_exact}
 ghost use Rattle.worths.specs.Fit.{Fits, FitsBy, FitsArc};
 ghost use Rattle.worths.specs.Rows.{reduced_of};
 
-use crate::worth::{Worth, is_above, is_below};
+use crate::worth::Worth;
 use network::road::Road;
 
 /// What stands at a place of a row, zero past its end.
@@ -46,9 +46,9 @@ pub fn fits<W: Worth>(roads: &[Road], worths: &[W], prices: &[W], flow: &[u32]) 
 fn fits_arc<W: Worth>(road: Road, worth: W, chests: u32) -> bool
     ensures { Decides result (FitsArc ranked road (W.Worth.value worth) chests) }
 {
-    if is_above(worth) {
+    if worth.is_above() {
         chests == road.least
-    } else if is_below(worth) {
+    } else if worth.is_below() {
         chests == road.most
     } else {
         true
