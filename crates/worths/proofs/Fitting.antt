@@ -1,4 +1,5 @@
 -- The test of a flow against reduced worths.
+use Rattle.std.proofs.lemmas.Int.{ints}
 use Rattle.std.proofs.Common.{◌≡◌, ℕ, ◌<◌, Bool, true, false, List, length, get_or, Decides, sym, refl, ap, ◌∙◌, subst, MatchBool, arith}
 use Rattle.network.specs.Arcs.{road_at, nowhere}
 use Rattle.network.specs.declared.road.Road.{Road}
@@ -6,7 +7,7 @@ use Rattle.std.specs.List.{AllWithin, HoldsAt, enumerate_from}
 use Rattle.std.proofs.lemmas.List.FromFn.{length-enumerate_from, get_or-enumerate_from}
 use Rattle.std.proofs.lemmas.Bool.Decides.{Decides-like}
 use Rattle.worths.specs.Kinds.{Pair, ranked}
-use Rattle.worths.specs.Fit.{FitsBy, FitsArc}
+use Rattle.worths.specs.Fit.{FitsBy}
 use Rattle.worths.specs.Values.{NearPair, wrapped_pair, max_exact}
 use Rattle.worths.proofs.Ranges.{wrapped_near}
 
@@ -25,7 +26,7 @@ decides_arcs false roads P (a, l, none) =
     (λ t. cc, λ all. absurd (none (0, nowhere) (subst (λ (x : ℕ × Road). P x.0 x.1) (sym (numbered roads a k)) (all a k))))
 
 fits_same : (roads : List Road) (f g : ℕ → Pair) (x : List ℕ) → ((a : ℕ) → a < length roads → f a ≡ g a) → FitsBy ranked roads f x → FitsBy ranked roads g x
-fits_same roads f g x e fit a l = subst (λ u. FitsArc ranked (road_at roads a) u (get_or x a 0)) (e a l) (fit a l)
+fits_same roads f g x e fit a l = grind (arith, ints)
 
 -- a test by wrapped reduced worths is a test by the true ones, where these are near
 pub exact_fits :

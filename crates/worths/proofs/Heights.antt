@@ -1,7 +1,6 @@
 -- How far rows of pairs can still fall: a number that grows less whenever some of them fall.
-use Rattle.std.proofs.Common.{◌≡◌, ℕ, zero, suc, ◌+◌, ◌*◌, ◌<◌, ◌≤◌, Bool, true, false, not, ◌&&◌, ◌||◌, T, ◌⊎◌, ℤ, pos, ◌+ℤ◌, nat_abs, ◌≤ℤ◌, ◌<ℤ◌, refl, ap, subst, inl, inr, mul-le-mul_right, suc-mul, arith}
+use Rattle.std.proofs.Common.{◌≡◌, ℕ, zero, suc, ◌+◌, ◌*◌, ◌<◌, ◌≤◌, not, T, ◌⊎◌, ℤ, pos, ◌+ℤ◌, nat_abs, ◌≤ℤ◌, ◌<ℤ◌, refl, ap, subst, inl, inr, mul-le-mul_right, suc-mul, arith}
 use native.Mathlib.Decide.{ℕ_discrete}
-use lib.Signed.{lt_z, le_z}
 use borrow.Author.Differences.{ints, abs_is}
 use Rattle.numbers.specs.Totals.{total}
 use Rattle.numbers.proofs.Totals.{total_same, total_le}
@@ -32,13 +31,7 @@ seconds_le (suc n) far p h = more (total n (λ v. nat_abs ((p v).1 +ℤ pos far)
 
 -- a pair below zero: by its first part, or by its second where the first is zero
 pub below_parts : (d : Pair) → T (not (at_most_pair (pos 0, pos 0) d)) → (d.0 <ℤ pos 0) ⊎ ((d.0 ≡ pos 0) × (d.1 <ℤ pos 0))
-below_parts d t = go (lt_z (pos 0) d.0) (le_z (pos 0) d.0) (le_z (pos 0) d.1) refl refl refl t
-  where
-    go : (a b c : Bool) → lt_z (pos 0) d.0 ≡ a → le_z (pos 0) d.0 ≡ b → le_z (pos 0) d.1 ≡ c → T (not (a || (b && c))) → (d.0 <ℤ pos 0) ⊎ ((d.0 ≡ pos 0) × (d.1 <ℤ pos 0))
-    go true b c e f g t = absurd t
-    go false true true e f g t = absurd t
-    go false true false e f g t = inr (omega (arith, ints), omega (arith, ints))
-    go false false c e f g t = inl (omega (arith, ints))
+below_parts d t = grind (arith, ints)
 
 -- q is p with some pairs moved by d
 abbrev pub Fallen : ℕ → (ℕ → Pair) → (ℕ → Pair) → Pair → Type 0

@@ -21,10 +21,10 @@ first_below : (a : ℤ) → Below ranked (a, pos 0) → Below plain a
 first_below a h = grind (arith, ints)
 
 pub first_part_fits : (r : Road) (u : Pair) (chests : ℕ) → FitsArc ranked r u chests → FitsArc plain r u.0 chests
-first_part_fits r u chests f = record { above = λ h. f.above (above_by_first u h); below = λ h. f.below (below_by_first u h) }
+first_part_fits r u chests f = grind (arith, ints)
 
 pub plain_part_fits : (r : Road) (a : ℤ) (chests : ℕ) → FitsArc plain r a chests → FitsArc ranked r (a, pos 0) chests
-plain_part_fits r a chests f = record { above = λ h. f.above (first_above a h); below = λ h. f.below (first_below a h) }
+plain_part_fits r a chests f = grind (arith, ints)
 
 pub first_parts : FirstPartsFit
 first_parts roads worth tie price x fit a l = first_part_fits _ (reduced ranked roads (λ k. (worth k, tie k)) price a) _ (fit a l)

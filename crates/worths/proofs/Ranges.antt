@@ -1,5 +1,5 @@
 -- Where sums and negations of worths are exact.
-use Rattle.std.proofs.Common.{◌≡◌, ℕ, ◌+◌, ◌^◌, ◌<◌, ◌≤◌, ℤ, pos, ◌+ℤ◌, neg_ℤ, nat_abs, refl, ◌∙◌, arith, lit<, lit≤, w64, SFits}
+use Rattle.std.proofs.Common.{◌≡◌, ℕ, ◌+◌, ◌^◌, ◌<◌, ◌≤◌, ℤ, pos, ◌+ℤ◌, neg_ℤ, nat_abs, refl, ◌∙◌, arith, lit<, w64, SFits}
 use Rattle.network.specs.declared.road.Road.{Road}
 use Rattle.std.specs.Int.{int_wrap}
 use Rattle.std.proofs.lemmas.Int.{ints, int_wrap_fits, int_wrap-add_left, int_wrap-add_right}
@@ -51,8 +51,4 @@ wrapped_plus u v = pair_eq (part u.0 v.0) (part u.1 v.1)
 pub near_reduced :
     (r : Road) (worth : Pair) (price : ℕ → Pair) → NearPair max_worth worth → NearPair max_price (price r.tail) → NearPair max_price (price r.head)
     → NearPair max_exact (reduced_by ranked r worth price)
-near_reduced r worth price near_worth near_tail near_head =
-    let sum = near_plus worth (price r.tail) max_worth max_price near_worth near_tail in
-    let less = near_minus (price r.head) max_price near_head in
-    near_within (reduced_by ranked r worth price) (max_worth + max_price + max_price) max_exact (lit≤ tt)
-    (near_plus (plus_pair worth (price r.tail)) (minus_pair (price r.head)) (max_worth + max_price) max_price sum less)
+near_reduced r worth price near_worth near_tail near_head = grind (arith, ints)
