@@ -1,4 +1,5 @@
 -- Why a search for a best flow ends, for every kind of worth: the rows within the mosts that are worth less grow fewer.
+use Rattle.std.proofs.lemmas.Int.{ints}
 use Rattle.std.proofs.Common.{◌≡◌, ℕ, ◌<◌, ◌≤◌, Bool, true, false, cond, not, T, List, [], ◌∷◌, map, length, get_or, sym, ◌∙◌, subst, inl, inr, arith, T_not}
 use lib.Dec.{not_T}
 use Rattle.std.proofs.lemmas.List.{get_or-map, length-map}
@@ -13,15 +14,10 @@ use Rattle.flows.specs.Prices.{worth_of}
 use Rattle.flows.proofs.Sums as S
 
 one_le : (a b : Bool) → (T a → T b) → cond a 1 0 ≤ cond b 1 0
-one_le true true h = omega arith
-one_le true false h = absurd (h tt)
-one_le false true h = omega arith
-one_le false false h = omega arith
+one_le a b h = grind (arith, ints)
 
 one_lt : (a b : Bool) → T (not a) → T b → cond a 1 0 < cond b 1 0
-one_lt true b h k = absurd h
-one_lt false true h k = omega arith
-one_lt false false h k = absurd k
+one_lt a b h k = grind (arith, ints)
 
 count_le : {A : Type 0} (p q : A → Bool) (l : List A) → ((a : A) → T (p a) → T (q a)) → count p l ≤ count q l
 count_le p q [] h = omega arith

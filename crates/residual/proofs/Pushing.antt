@@ -20,10 +20,7 @@ use Rattle.residual.specs.declared.step.Step.{Step}
 -- ---- flows and excess
 
 pub flow_even : (n : Net) (x : List ℕ) → Flow n x → (v : ℕ) → v < node_count n → excess n x v ≡ pos 0
-flow_even n x f v h = go (stock_at n.stocks v) (pos (outflow n.roads (on x) v) -ℤ pos (inflow n.roads (on x) v)) (f.kept v h)
-  where
-    go : (s t : ℤ) → t ≡ s → s -ℤ t ≡ pos 0
-    go s t e = omega (arith, ints)
+flow_even n x f v h = grind (arith, ints)
 
 pub flow_bounded : (n : Net) (x : List ℕ) → Flow n x → Bounded n.roads x
 flow_bounded n x f = record { long = f.long; low = f.low; high = f.high }
