@@ -1,6 +1,6 @@
 -- Why a search for a best flow ends, for every kind of worth: the rows within the mosts that are worth less grow fewer.
-use Rattle.std.proofs.lemmas.Int.{ints}
 use Rattle.std.proofs.Common.{◌≡◌, ℕ, ◌<◌, ◌≤◌, Bool, true, false, cond, not, T, List, [], ◌∷◌, map, length, get_or, sym, ◌∙◌, subst, inl, inr, arith, T_not}
+use Rattle.std.proofs.lemmas.Int.{ints}
 use lib.Dec.{not_T}
 use Rattle.std.proofs.lemmas.List.{get_or-map, length-map}
 use Rattle.numbers.specs.Rows.{Has, rows}

@@ -1,6 +1,6 @@
 -- Multiples and sums of worths, for every kind that is an ordered group.
-use Rattle.std.proofs.lemmas.Int.{ints}
 use Rattle.std.proofs.Common.{◌≡◌, ℕ, zero, suc, ◌+◌, ◌-◌, ◌<◌, ◌≤◌, Bool, true, false, cond, not, T, eqb, sym, refl, ap, ◌∙◌, subst, ap₂, ⊎_elim, suc-add, zero-add, arith, eqb→eq, T_not}
+use Rattle.std.proofs.lemmas.Int.{ints}
 use Rattle.numbers.specs.Totals.{total}
 use Rattle.worths.specs.Kinds.{Kind, Ordered, Above, Below, times, sum}
 

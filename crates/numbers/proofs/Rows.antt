@@ -1,5 +1,6 @@
 -- All rows of numbers up to given ones: finitely many, so that what can be decided of a row can be decided of all of them.
 use Rattle.std.proofs.Common.{◌≡◌, ℕ, zero, suc, ◌<◌, ◌≤◌, List, [], ◌∷◌, ◌++◌, map, length, get_or, sym, refl, ap, subst, inl, inr, arith}
+use Rattle.std.proofs.lemmas.Int.{ints}
 use native.Mathlib.Decide.{dec_le, ℕ_discrete}
 use Rattle.numbers.specs.Rows.{Has, spread, rows}
 
@@ -37,9 +38,7 @@ in_rows (m ∷ ms) (x ∷ xs) e h = in_spread m x xs (rows ms) (h 0 (omega arith
 -- ---- deciding
 
 pub both_dec : {A B : Type 0} → Dec A → Dec B → Dec (A × B)
-both_dec (yes a) (yes b) = yes (a, b)
-both_dec (no a) d = no (λ p. a p.0)
-both_dec (yes a) (no b) = no (λ p. b p.1)
+both_dec h k = grind (arith, ints)
 
 pub all_dec : (n : ℕ) (P : ℕ → Type 0) → ((i : ℕ) → Dec (P i)) → Dec ((i : ℕ) → i < n → P i)
 all_dec zero P d = yes (λ i h. absurd (omega arith))

@@ -1,6 +1,6 @@
 -- The test of a flow against reduced worths.
-use Rattle.std.proofs.lemmas.Int.{ints}
 use Rattle.std.proofs.Common.{◌≡◌, ℕ, ◌<◌, Bool, true, false, List, length, get_or, Decides, sym, refl, ap, ◌∙◌, subst, MatchBool, arith}
+use Rattle.std.proofs.lemmas.Int.{ints}
 use Rattle.network.specs.Arcs.{road_at, nowhere}
 use Rattle.network.specs.declared.road.Road.{Road}
 use Rattle.std.specs.List.{AllWithin, HoldsAt, enumerate_from}

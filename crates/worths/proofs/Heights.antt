@@ -50,26 +50,17 @@ module _ (n far : ℕ) (p q : ℕ → Pair) (d : Pair) (near_p : (v : ℕ) → v
   -- one part of one pair, which does not rise
   part_le : (a b e : ℤ) → nat_abs a ≤ far → nat_abs b ≤ far → (b ≡ a) ⊎ (b ≡ a +ℤ e) → e ≤ℤ pos 0 → rise far b ≤ rise far a
   unfolding rise
-  part_le a b e h k (inl s) l = omega (arith, ints, abs_is)
-  part_le a b e h k (inr s) l = omega (arith, ints, abs_is)
+  part_le a b e h k s l = grind (arith, ints, abs_is)
 
   part_lt : (a b e : ℤ) → nat_abs a ≤ far → nat_abs b ≤ far → b ≡ a +ℤ e → e <ℤ pos 0 → rise far b < rise far a
   unfolding rise
   part_lt a b e h k s l = omega (arith, ints, abs_is)
 
   first_of : (v : ℕ) → v < n → ((q v).0 ≡ (p v).0) ⊎ ((q v).0 ≡ (p v).0 +ℤ d.0)
-  first_of v k = go (fallen v k)
-    where
-      go : (q v ≡ p v) ⊎ (q v ≡ plus_pair (p v) d) → ((q v).0 ≡ (p v).0) ⊎ ((q v).0 ≡ (p v).0 +ℤ d.0)
-      go (inl e) = inl (ap (λ (z : Pair). z.0) e)
-      go (inr e) = inr (ap (λ (z : Pair). z.0) e)
+  first_of v k = grind (arith, ints, fallen v k)
 
   second_of : (v : ℕ) → v < n → ((q v).1 ≡ (p v).1) ⊎ ((q v).1 ≡ (p v).1 +ℤ d.1)
-  second_of v k = go (fallen v k)
-    where
-      go : (q v ≡ p v) ⊎ (q v ≡ plus_pair (p v) d) → ((q v).1 ≡ (p v).1) ⊎ ((q v).1 ≡ (p v).1 +ℤ d.1)
-      go (inl e) = inl (ap (λ (z : Pair). z.1) e)
-      go (inr e) = inr (ap (λ (z : Pair). z.1) e)
+  second_of v k = grind (arith, ints, fallen v k)
 
   -- moved by less than nothing, one of them at least: the height falls
   pub height_falls : T (not (at_most_pair (pos 0, pos 0) d)) → (u : ℕ) → u < n → q u ≡ plus_pair (p u) d → height n far q < height n far p
