@@ -106,13 +106,11 @@ unfolding spot
 spot_le {up} {v} (top e) u = pick (eqb u v)
   where
     pick : (b : Bool) → cond b 1 0 ≤ 1
-    pick true = omega arith
-    pick false = omega arith
+    pick b = grind (arith, ints)
 spot_le {up} {v} (under e r) u = pick (eqb u v) (spot_le r u)
   where
     pick : (b : Bool) → spot r u ≤ 1 → cond b 1 (spot r u) ≤ 1
-    pick true k = omega arith
-    pick false k = k
+    pick b k = grind (arith, ints)
 
 spot_off : {up : ℕ → Option ℕ} {v : ℕ} (r : Rooted up v) (u : ℕ) → (On up u v → ⊥) → spot r u ≡ 0
 unfolding spot
@@ -198,9 +196,7 @@ on_within {up} {v} k t (top e) h o = within_same up k t v (on_root up t v e o)
 on_within {up} {v} k t (under {p = p} e r) h o = go k h (ℕ_discrete v t) (λ j g d. on_within j t r g (on_parent up t v p d e o))
   where
     go : (k : ℕ) → suc (steps r) ≤ k → Dec (v ≡ t) → ((j : ℕ) → steps r ≤ j → v ≢ t → T (within up j t p)) → T (within up k t v)
-    go k h (yes q) f = within_same up k t v q
-    go zero h (no d) f = absurd (omega arith)
-    go (suc j) h (no d) f = within_step up j t v p d e (f j (omega arith) d)
+    go k h t f = grind (arith, ints)
 
 -- ---- steps and their flips
 

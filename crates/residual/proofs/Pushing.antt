@@ -86,12 +86,10 @@ module _ (n : Net) (x : List ℕ) (s : Step) (d : ℕ) (inside : s.arc < arc_cou
   }
     where
       at_low : (c : Bool) (y l m : ℕ) → l ≤ y → d ≤ cond c (m - y) (y - l) → l ≤ cond c (y + d) (y - d)
-      at_low true y l m p q = omega arith
-      at_low false y l m p q = omega arith
+      at_low c y l m p q = grind (arith, ints)
 
       at_high : (c : Bool) (y l m : ℕ) → y ≤ m → d ≤ cond c (m - y) (y - l) → cond c (y + d) (y - d) ≤ m
-      at_high true y l m p q = omega arith
-      at_high false y l m p q = omega arith
+      at_high c y l m p q = grind (arith, ints)
 
       low : (a : ℕ) → a < arc_count n → Dec (a ≡ s.arc) → (road_at n.roads a).least ≤ on (pushed x s d) a
       low a k (yes e) =
@@ -176,8 +174,7 @@ module _ (n : Net) (x : List ℕ) (s : Step) (d : ℕ) (inside : s.arc < arc_cou
       ∙ go s.along (on x s.arc) (road_at n.roads s.arc).least (road_at n.roads s.arc).most (B.low s.arc inside) wide
     where
       go : (b : Bool) (y l m : ℕ) → l ≤ y → d ≤ cond b (m - y) (y - l) → cond b (m - cond b (y + d) (y - d)) (cond b (y + d) (y - d) - l) + d ≡ cond b (m - y) (y - l)
-      go true y l m p q = omega arith
-      go false y l m p q = omega arith
+      go b y l m p q = grind (arith, ints)
 
   pub room_back : room n.roads (pushed x s d) (flip s) ≡ room n.roads x (flip s) + d
   room_back =
@@ -185,8 +182,7 @@ module _ (n : Net) (x : List ℕ) (s : Step) (d : ℕ) (inside : s.arc < arc_cou
       ∙ go s.along (on x s.arc) (road_at n.roads s.arc).least (road_at n.roads s.arc).most (B.low s.arc inside) (B.high s.arc inside) wide
     where
       go : (b : Bool) (y l m : ℕ) → l ≤ y → y ≤ m → d ≤ cond b (m - y) (y - l) → cond (not b) (m - cond b (y + d) (y - d)) (cond b (y + d) (y - d) - l) ≡ cond (not b) (m - y) (y - l) + d
-      go true y l m p r q = omega arith
-      go false y l m p r q = omega arith
+      go b y l m p r q = grind (arith, ints)
 
 -- ---- one move after another
 
