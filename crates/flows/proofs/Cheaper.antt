@@ -1,5 +1,5 @@
 -- Why a search for a best flow ends, for every kind of worth: the rows within the mosts that are worth less grow fewer.
-use Rattle.std.proofs.Common.{◌≡◌, ℕ, ◌<◌, ◌≤◌, Bool, true, false, cond, not, T, List, [], ◌∷◌, map, length, get_or, sym, ◌∙◌, subst, inl, inr, arith, T_not}
+use Rattle.std.proofs.Common.{◌≡◌, ℕ, ◌<◌, ◌≤◌, Bool, cond, not, T, List, [], ◌∷◌, map, length, get_or, sym, ◌∙◌, subst, inl, inr, arith, T_not}
 use Rattle.std.proofs.lemmas.Int.{ints}
 use lib.Dec.{not_T}
 use Rattle.std.proofs.lemmas.List.{get_or-map, length-map}
@@ -47,5 +47,4 @@ module _ {K : Kind} (O : Ordered K) where
       w z = worth_of K n worth z
 
       twice : (b : Bool) → T b → T (not (not b))
-      twice true t = tt
-      twice false t = absurd t
+      twice b t = grind (arith, ints)

@@ -179,5 +179,4 @@ module _ {K : Kind} (O : Ordered K) where
       ∙ sum_pick nodes (end a) (λ v. times K (x a) (price v)) (h a k))
     where
       times_cond : (b : Bool) (k : ℕ) (u : K.Worth) → times K (cond b k 0) u ≡ cond b (times K k u) K.nil
-      times_cond true k u = refl
-      times_cond false k u = refl
+      times_cond b k u = grind (arith, ints)
