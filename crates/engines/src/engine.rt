@@ -31,6 +31,7 @@ impl From<NoFlow> for Refusal {
 pub trait Engine {
     /// If there is a flow, the first entries of `flow` are one, and those of `prices` fit it; if not, nothing is said of them. Entries
     /// past the arcs, past the nodes, and past the nodes and one, stay as they are.
+    // kept: all rows are handed to an engine as slices, by a rule of the project, and so no struct holds them.
     fn solve<W: Worth>(
         &mut self,
         roads: &[Road],

@@ -1,5 +1,5 @@
 -- From prices that fit to lightest points and lexicographic minima; every point lies within the reach.
-use Rattle.std.proofs.Common.{◌≡◌, ℕ, ◌≤◌, T, List, ℤ, pos, ◌+ℤ◌, ◌*ℤ◌, nat_abs, ◌≤ℤ◌, sym, refl, ap, ◌∙◌, subst, arith}
+use Rattle.std.proofs.Common.{◌≡◌, ℕ, ◌≤◌, T, List, ℤ, pos, ◌+ℤ◌, nat_abs, ◌≤ℤ◌, sym, refl, ap, ◌∙◌, subst, arith}
 use lib.Signed.{le_z}
 use Rattle.std.proofs.lemmas.Int.{ints}
 use Rattle.network.proofs.Floored.{far_sum}
@@ -99,12 +99,6 @@ points_within n ok = record {
 }
 
 -- ---- the minima by which corners are found, each one weighing after another
-
-times_one : (c d : ℤ) → c ≡ pos 1 *ℤ c +ℤ pos 0 *ℤ d
-times_one c d = omega (arith, ints)
-
-times_other : (c d : ℤ) → d ≡ pos 0 *ℤ c +ℤ pos 1 *ℤ d
-times_other c d = omega (arith, ints)
 
 -- the two costs of an arc as weighings
 costs_weighed : (n : Net) (a : ℕ) → ((road_at n.roads a).first ≡ weighed n (pos 1) (pos 0) a) × ((road_at n.roads a).second ≡ weighed n (pos 0) (pos 1) a)
