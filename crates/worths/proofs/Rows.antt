@@ -1,19 +1,10 @@
--- Rows of worths, read at a place, and the reduced worth that the code sums up from such reads.
-use Rattle.std.proofs.Common.{◌≡◌, ℕ, ◌<◌, ◌≤◌, List, map, length, get_or, sym, ap, ◌∙◌, ap₂}
+-- The reduced worth that the code sums up from reads of rows.
+use Rattle.std.proofs.Common.{◌≡◌, ℕ, ap, ◌∙◌, ap₂}
 use Rattle.network.specs.declared.road.Road.{Road}
-use Rattle.std.proofs.lemmas.List.{get_or-map, get_or_past, length-map}
 use Rattle.worths.specs.Kinds.{Pair, plus_pair, minus_pair, ranked}
 use Rattle.worths.specs.Fit.{reduced_by}
-use Rattle.worths.specs.Values.{wrapped_pair, row_of}
+use Rattle.worths.specs.Values.{wrapped_pair}
 use Rattle.worths.proofs.Ranges.{wrapped_plus}
-
-pub row_read : {W : Type 0} (value : W → Pair) (row : List W) (i : ℕ) (x : W) → i < length row → x ≡ get_or row i x → value x ≡ row_of value row i
-row_read value row i x l is = sym (get_or-map value row i x ranked.nil l ∙ ap value (sym is))
-
-pub row_past : {W : Type 0} (value : W → Pair) (row : List W) (i : ℕ) → length row ≤ i → row_of value row i ≡ ranked.nil
-row_past value row i l =
-    let past : length (map value row) ≤ i = rw length-map l in
-    get_or_past (map value row) i ranked.nil past
 
 -- two sums and a negation, each of which wraps, are the reduced worth, wrapped once
 pub reduced_wraps :
