@@ -1,5 +1,4 @@
 pub mod Ranges
-pub mod Rows
 pub mod Fitting
 pub mod Parts
 pub mod Heights
