@@ -1,5 +1,5 @@
 -- One test of a claim by its evidence, and what passing it shows.
-use Rattle.std.proofs.Common.{◌≡◌, ℕ, zero, suc, Bool, true, false, ◌&&◌, ◌||◌, T, ◌⊎◌, List, [], ◌∷◌, get_or, ℤ, pos, ◌-ℤ◌, refl, ap, subst, ap₂, inl, inr, arith}
+use Rattle.std.proofs.Common.{◌≡◌, ℕ, zero, suc, Bool, true, false, ◌&&◌, ◌||◌, T, ◌⊎◌, List, [], ◌∷◌, get_or, ℤ, pos, ◌-ℤ◌, refl, subst, ap₂, inl, inr, arith}
 use lib.Signed.{lt_z}
 use Rattle.std.specs.List.{AllByRecursion}
 use Rattle.std.proofs.lemmas.Int.{ints}
@@ -41,22 +41,13 @@ is_out z [] = true
 is_out z (x ∷ l) = is_off z x && is_out z l
 
 either_by : (a b : Bool) → T (a || b) → T a ⊎ T b
-either_by true b t = inl tt
-either_by false b t = inr t
+either_by a b t = grind (arith, ints)
 
 apart_by : (a b : ℤ) → T (lt_z a b || lt_z b a) → a ≡ b → ⊥
-apart_by a b t e = go (either_by (lt_z a b) (lt_z b a) t)
-  where
-    go : T (lt_z a b) ⊎ T (lt_z b a) → ⊥
-    go (inl h) = omega (arith, ints)
-    go (inr h) = omega (arith, ints)
+apart_by a b t e = grind (arith, ints)
 
 off_by : (y z : Point) → T (is_off y z) → y ≡ z → ⊥
-off_by y z t e = go (either_by (lt_z y.0 z.0 || lt_z z.0 y.0) _ t)
-  where
-    go : T (lt_z y.0 z.0 || lt_z z.0 y.0) ⊎ T (lt_z y.1 z.1 || lt_z z.1 y.1) → ⊥
-    go (inl h) = apart_by y.0 z.0 h (ap (λ x. x.0) e)
-    go (inr h) = apart_by y.1 z.1 h (ap (λ x. x.1) e)
+off_by y z t e = grind (arith, ints)
 
 out_by : (z : Point) (l : List Point) → T (is_out z l) → In z l → ⊥
 out_by z [] t i = i
@@ -110,11 +101,7 @@ others_by n l (z ∷ others) (x ∷ xs) full t =
     ((record { flow = x; flows = f.0; here = f.1 }, λ c. out_by z l u.1 (full.complete z c)), others_by n l others xs full s.1)
 
 unserved_by : (n : Net) (S : ℕ → Bool) → T (is_too_much n S || is_too_little n S) → Unserved n S
-unserved_by n S t = go (either_by (is_too_much n S) _ t)
-  where
-    go : T (is_too_much n S) ⊎ T (is_too_little n S) → Unserved n S
-    go (inl h) = inl (record { lt = h })
-    go (inr h) = inr (record { lt = h })
+unserved_by n S t = grind (arith, ints)
 
 lightest_by : (n : Net) → Lawful n → (p q : ℤ) (x : List ℕ) (prices : List Pair) → Flow n x → T (is_fit_by_first n p q x prices || is_fit_by_second n p q x prices) → Lightest (Points n) p q (point n x)
 lightest_by n ok p q x prices f t = go (either_by (is_fit_by_first n p q x prices) _ t)

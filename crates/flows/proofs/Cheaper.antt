@@ -1,5 +1,6 @@
 -- Why a search for a best flow ends, for every kind of worth: the rows within the mosts that are worth less grow fewer.
-use Rattle.std.proofs.Common.{◌≡◌, ℕ, ◌<◌, ◌≤◌, Bool, true, false, cond, not, T, List, [], ◌∷◌, map, length, get_or, sym, ◌∙◌, subst, inl, inr, arith, T_not}
+use Rattle.std.proofs.Common.{◌≡◌, ℕ, ◌<◌, ◌≤◌, Bool, cond, not, T, List, [], ◌∷◌, map, length, get_or, sym, ◌∙◌, subst, inl, inr, arith, T_not}
+use Rattle.std.proofs.lemmas.Int.{ints}
 use lib.Dec.{not_T}
 use Rattle.std.proofs.lemmas.List.{get_or-map, length-map}
 use Rattle.numbers.specs.Rows.{Has, rows}
@@ -13,15 +14,10 @@ use Rattle.flows.specs.Prices.{worth_of}
 use Rattle.flows.proofs.Sums as S
 
 one_le : (a b : Bool) → (T a → T b) → cond a 1 0 ≤ cond b 1 0
-one_le true true h = omega arith
-one_le true false h = absurd (h tt)
-one_le false true h = omega arith
-one_le false false h = omega arith
+one_le a b h = grind (arith, ints)
 
 one_lt : (a b : Bool) → T (not a) → T b → cond a 1 0 < cond b 1 0
-one_lt true b h k = absurd h
-one_lt false true h k = omega arith
-one_lt false false h k = absurd k
+one_lt a b h k = grind (arith, ints)
 
 count_le : {A : Type 0} (p q : A → Bool) (l : List A) → ((a : A) → T (p a) → T (q a)) → count p l ≤ count q l
 count_le p q [] h = omega arith
@@ -51,5 +47,4 @@ module _ {K : Kind} (O : Ordered K) where
       w z = worth_of K n worth z
 
       twice : (b : Bool) → T b → T (not (not b))
-      twice true t = tt
-      twice false t = absurd t
+      twice b t = grind (arith, ints)

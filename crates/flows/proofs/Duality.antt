@@ -1,8 +1,8 @@
 -- Prices that fit a flow show that no flow is worth less, and fit every flow that is worth as much.
-use Rattle.std.proofs.Common.{◌≡◌, ℕ, ◌+◌, ◌<◌, ◌≤◌, Bool, true, false, not, T, List, ℤ, pos, ◌-ℤ◌, sym, refl, ap, ◌∙◌, subst, ap₂, arith}
+use Rattle.std.proofs.Common.{◌≡◌, ℕ, ◌+◌, ◌<◌, ◌≤◌, Bool, true, false, not, T, List, sym, refl, ap, ◌∙◌, subst, ap₂, arith}
 use Rattle.std.proofs.lemmas.Int.{ints}
 use Rattle.std.proofs.ByRecursion.{All-get_or}
-use Rattle.network.specs.Arcs.{road_at, stock_at, nowhere}
+use Rattle.network.specs.Arcs.{road_at, nowhere}
 use Rattle.network.specs.Net.{Net, Lawful, node_count, arc_count}
 use Rattle.network.specs.Roads.{Ranged}
 use Rattle.worths.specs.Kinds.{Kind, Ordered, Above, Below, times, sum}
@@ -22,11 +22,7 @@ head_node n ok a h = (All-get_or (Ranged (node_count n)) n.roads a nowhere h ok.
 -- what leaves in one flow and arrives in the other
 balanced : (n : Net) (x y : List ℕ) → Flow n x → Flow n y → (v : ℕ) → v < node_count n
     → outflow n.roads (on x) v + inflow n.roads (on y) v ≡ outflow n.roads (on y) v + inflow n.roads (on x) v
-balanced n x y f g v h =
-    go (outflow n.roads (on x) v) (inflow n.roads (on x) v) (outflow n.roads (on y) v) (inflow n.roads (on y) v) (stock_at n.stocks v) (f.kept v h) (g.kept v h)
-  where
-    go : (a b c d : ℕ) (s : ℤ) → pos a -ℤ pos b ≡ s → pos c -ℤ pos d ≡ s → a + d ≡ c + b
-    go a b c d s h k = omega (arith, ints)
+balanced n x y f g v h = grind (arith, ints)
 
 module _ {K : Kind} (O : Ordered K) where
   -- against an arc that fits, any other number of chests within its bounds is worth no less at the reduced worth

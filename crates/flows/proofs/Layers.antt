@@ -7,7 +7,6 @@ use Rattle.std.proofs.ByRecursion.{All-get_or}
 use Rattle.std.proofs.lemmas.List.{length-map}
 use Rattle.std.proofs.lemmas.Int.{ints}
 use Rattle.numbers.specs.Totals.{total}
-use Rattle.numbers.proofs.Products.{poly}
 use Rattle.numbers.proofs.Totals.{total_same, total_add, total_list}
 use Rattle.network.specs.Arcs.{road_at, stock_at, nowhere}
 use Rattle.network.specs.Exchanged.{swapped, exchanged}
@@ -51,8 +50,7 @@ ends_raised k end end' x y l v same each =
     ∙ total_add k (λ a. cond (eqb (end' a) v) (y a) 0) (λ a. cond (eqb (end a) v) (l a) 0)
   where
     split : (b : Bool) (y l : ℕ) → cond b (y + l) 0 ≡ cond b y 0 + cond b l 0
-    split true y l = refl
-    split false y l = refl
+    split b y l = grind (arith, ints)
 
 module _ (n m : Net) (l : ℕ → ℕ) (F : Lifted n m l) (y x : List ℕ) (R : Raised n l y x) where
   out_raised : (v : ℕ) → outflow n.roads (on x) v ≡ outflow m.roads (on y) v + outflow n.roads l v
@@ -197,10 +195,7 @@ raised_cost n cost same y x R =
     ∙ ap₂ (λ s t. s +ℤ t) (ap (λ (k : ℕ). sum plain k (λ a. pos (on y a) *ℤ cost (road_at (floored n).roads a))) (sym (floored_arcs n))) (leasts_cost cost n.roads)
   where
     split : (j k : ℕ) (c : ℤ) → pos (j + k) *ℤ c ≡ pos j *ℤ c +ℤ pos k *ℤ c
-    split j k c = more (pos j) (pos k) (pos (j + k)) refl
-      where
-        more : (u v w : ℤ) → w ≡ u +ℤ v → w *ℤ c ≡ u *ℤ c +ℤ v *ℤ c
-        more u v w e = ap (λ z. z *ℤ c) e ∙ omega (arith, poly)
+    split j k c = grind (arith, ints)
 
 raised_point : (n : Net) (y x : List ℕ) → Raised n (leasts n) y x → point n x ≡ point (floored n) y
 raised_point n y x R i = (part n.fixed.0 first_cost (λ r. refl) i, part n.fixed.1 second_cost (λ r. refl) i)

@@ -1,5 +1,7 @@
 -- The points of a network's flows can be listed: rows within the mosts are finitely many, and whether one is a flow can be decided.
 use Rattle.std.proofs.Common.{◌≡◌, ℕ, ◌<◌, ◌≤◌, ◌⊎◌, List, [], ◌∷◌, map, length, get_or, pos, ◌-ℤ◌, sym, ap, ◌∙◌, subst, inl, inr}
+use Rattle.std.proofs.lemmas.Int.{ints}
+use Rattle.std.proofs.Common.{arith}
 use native.Mathlib.Decide.{dec_le, ℕ_discrete}
 use lib.IntN.{ℤ_discrete}
 use Rattle.std.proofs.lemmas.List.{get_or-map, length-map}
@@ -25,8 +27,7 @@ flow_dec n x =
     Kept v = pos (outflow n.roads (on x) v) -ℤ pos (inflow n.roads (on x) v) ≡ stock_at n.stocks v
 
     go : Dec ((length x ≡ arc_count n) × (((a : ℕ) → a < arc_count n → Low a) × (((a : ℕ) → a < arc_count n → High a) × ((v : ℕ) → v < node_count n → Kept v)))) → Dec (Flow n x)
-    go (yes d) = yes (record { long = d.0; low = d.1.0; high = d.1.1.0; kept = d.1.1.1 })
-    go (no d) = no (λ f. d (f.long, (f.low, (f.high, f.kept))))
+    go h = grind (arith, ints)
 
 module _ (n : Net) where
   -- the points of the flows among some rows

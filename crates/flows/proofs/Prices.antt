@@ -1,6 +1,6 @@
 -- From prices that fit to lightest points and lexicographic minima; every point lies within the reach.
-use Rattle.std.proofs.Common.{◌≡◌, ℕ, ◌≤◌, Bool, true, false, ◌&&◌, ◌||◌, T, List, ℤ, pos, ◌+ℤ◌, ◌*ℤ◌, nat_abs, ◌≤ℤ◌, sym, refl, ap, ◌∙◌, subst, arith}
-use lib.Signed.{lt_z, le_z}
+use Rattle.std.proofs.Common.{◌≡◌, ℕ, ◌≤◌, T, List, ℤ, pos, ◌+ℤ◌, nat_abs, ◌≤ℤ◌, sym, refl, ap, ◌∙◌, subst, arith}
+use lib.Signed.{le_z}
 use Rattle.std.proofs.lemmas.Int.{ints}
 use Rattle.network.proofs.Floored.{far_sum}
 use Rattle.network.specs.Arcs.{road_at}
@@ -37,13 +37,7 @@ fit_where_as_light n ok p q price x y f g fit e =
 
 -- at most by the first part, and where that is the same by the second
 by_parts : (a b c d : ℤ) → T (at_most_pair (a, b) (c, d)) → (a ≤ℤ c) × (c ≡ a → b ≤ℤ d)
-by_parts a b c d t = go (lt_z a c) (le_z a c) (le_z b d) refl refl refl t
-  where
-    go : (s u v : Bool) → lt_z a c ≡ s → le_z a c ≡ u → le_z b d ≡ v → T (s || (u && v)) → (a ≤ℤ c) × (c ≡ a → b ≤ℤ d)
-    go true u v e f g t = (omega (arith, ints), λ h. omega (arith, ints))
-    go false true true e f g t = (omega (arith, ints), λ h. omega (arith, ints))
-    go false true false e f g t = absurd t
-    go false false v e f g t = absurd t
+by_parts a b c d t = grind (arith, ints)
 
 module _ (n : Net) (ok : Lawful n) (p q r s : ℤ) (price : ℕ → Pair) (x : List ℕ) (f : Flow n x) (fit : Fits ranked n.roads (weighed_twice n p q r s) price x) where
   -- what a flow is worth at the one weighing, and at the other
@@ -106,15 +100,9 @@ points_within n ok = record {
 
 -- ---- the minima by which corners are found, each one weighing after another
 
-times_one : (c d : ℤ) → c ≡ pos 1 *ℤ c +ℤ pos 0 *ℤ d
-times_one c d = omega (arith, ints)
-
-times_other : (c d : ℤ) → d ≡ pos 0 *ℤ c +ℤ pos 1 *ℤ d
-times_other c d = omega (arith, ints)
-
 -- the two costs of an arc as weighings
 costs_weighed : (n : Net) (a : ℕ) → ((road_at n.roads a).first ≡ weighed n (pos 1) (pos 0) a) × ((road_at n.roads a).second ≡ weighed n (pos 0) (pos 1) a)
-costs_weighed n a = (times_one (road_at n.roads a).first (road_at n.roads a).second, times_other (road_at n.roads a).first (road_at n.roads a).second)
+costs_weighed n a = grind (arith, ints)
 
 by_first_is : (n : Net) → by_first n ≡ weighed_twice n (pos 1) (pos 0) (pos 0) (pos 1)
 by_first_is n i a = ((costs_weighed n a).0 i, (costs_weighed n a).1 i)

@@ -1,5 +1,6 @@
 -- Multiples and sums of worths, for every kind that is an ordered group.
 use Rattle.std.proofs.Common.{◌≡◌, ℕ, zero, suc, ◌+◌, ◌-◌, ◌<◌, ◌≤◌, Bool, true, false, cond, not, T, eqb, sym, refl, ap, ◌∙◌, subst, ap₂, ⊎_elim, suc-add, zero-add, arith, eqb→eq, T_not}
+use Rattle.std.proofs.lemmas.Int.{ints}
 use Rattle.numbers.specs.Totals.{total}
 use Rattle.worths.specs.Kinds.{Kind, Ordered, Above, Below, times, sum}
 
@@ -41,10 +42,10 @@ module _ {K : Kind} (O : Ordered K) where
 
   -- more of it is at least as much, and less of it at most
   pub at_most_more : (u v : K.Worth) → T (K.at_most K.nil v) → T (K.at_most u (K.plus u v))
-  at_most_more u v h = subst (λ x. T (K.at_most x (K.plus u v))) (O.unit u) (at_most_sum u u K.nil v (at_most_refl u) h)
+  at_most_more u v h = grind (arith, ints)
 
   pub at_most_less : (u v : K.Worth) → T (K.at_most v K.nil) → T (K.at_most (K.plus u v) u)
-  at_most_less u v h = subst (λ x. T (K.at_most (K.plus u v) x)) (O.unit u) (at_most_sum u u v K.nil (at_most_refl u) h)
+  at_most_less u v h = grind (arith, ints)
 
   -- ---- multiples
 
@@ -178,5 +179,4 @@ module _ {K : Kind} (O : Ordered K) where
       ∙ sum_pick nodes (end a) (λ v. times K (x a) (price v)) (h a k))
     where
       times_cond : (b : Bool) (k : ℕ) (u : K.Worth) → times K (cond b k 0) u ≡ cond b (times K k u) K.nil
-      times_cond true k u = refl
-      times_cond false k u = refl
+      times_cond b k u = grind (arith, ints)

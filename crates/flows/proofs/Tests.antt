@@ -1,7 +1,6 @@
 -- What the tests show.
-use Rattle.std.proofs.Common.{◌≡◌, ℕ, zero, suc, ◌+◌, ◌<◌, Bool, true, false, not, ◌&&◌, ◌||◌, T, eqb, ltb, leb, List, [], ◌∷◌, length, ℤ, nat_abs, sym, refl, subst, arith, eqb→eq, ltb→lt, leb→le}
+use Rattle.std.proofs.Common.{◌≡◌, ℕ, zero, suc, ◌+◌, ◌<◌, Bool, true, not, ◌&&◌, ◌||◌, T, eqb, ltb, leb, List, [], ◌∷◌, length, ℤ, nat_abs, sym, subst, arith, eqb→eq, ltb→lt, leb→le}
 use native.Mathlib.Decide.{ℕ_discrete}
-use lib.Signed.{le_z}
 use Rattle.std.specs.List.{AllByRecursion}
 use Rattle.std.proofs.lemmas.Int.{ints}
 use Rattle.network.specs.Arcs.{road_at, stock_at}
@@ -18,8 +17,7 @@ use Rattle.flows.specs.Flows.{Flow, on, point, first_cost}
 use Rattle.flows.specs.Tests.{all_below, is_same, is_same_point, is_flow, is_flow_of, is_fit, is_lawful}
 
 pub both : (a b : Bool) → T (a && b) → T a × T b
-both true b t = (tt, t)
-both false b t = absurd t
+both a b t = grind (arith, ints)
 
 pub below_all : (n : ℕ) (f : ℕ → Bool) → T (all_below n f) → (i : ℕ) → i < n → T (f i)
 below_all zero f t i h = absurd (omega arith)
@@ -30,10 +28,7 @@ below_all (suc n) f t i h = go (ℕ_discrete i n) (λ k. below_all n f (both _ _
     go (no d) r = r (omega arith)
 
 pub same_by : (a b : ℤ) → T (is_same a b) → a ≡ b
-same_by a b t =
-    let h : T (le_z a b) = (both (le_z a b) (le_z b a) t).0 in
-    let k : T (le_z b a) = (both (le_z a b) (le_z b a) t).1 in
-    omega (arith, ints)
+same_by a b t = grind (arith, ints)
 
 pub same_point_by : (y z : Point) → T (is_same_point y z) → y ≡ z
 same_point_by y z t i = (same_by y.0 z.0 (both (is_same y.0 z.0) _ t).0 i, same_by y.1 z.1 (both (is_same y.0 z.0) _ t).1 i)
@@ -53,8 +48,7 @@ pub point_by : (n : Net) (z : Point) (x : List ℕ) → T (is_flow_of n z x) →
 point_by n z x t = let s = both (is_flow n x) _ t in (flow_by n x s.0, same_point_by (point n x) z s.1)
 
 or_else : (a b : Bool) → T (a || b) → T (not a) → T b
-or_else true b t u = absurd u
-or_else false b t u = t
+or_else a b t u = grind (arith, ints)
 
 pub fit_by : (K : Kind) (roads : List Road) (worth price : ℕ → K.Worth) (x : List ℕ) → T (is_fit K roads worth price x) → Fits K roads worth price x
 fit_by K roads worth price x t a k =
@@ -68,8 +62,7 @@ fit_by K roads worth price x t a k =
 -- ---- laws
 
 is_true : (b : Bool) → T b → b ≡ true
-is_true true t = refl
-is_true false t = absurd t
+is_true b t = grind (arith, ints)
 
 all_by : (Q : Road → Type 0) (roads : List Road) → ((a : ℕ) → a < length roads → Q (road_at roads a)) → AllByRecursion Q roads
 all_by Q [] h = tt

@@ -1,11 +1,10 @@
 -- Ways to a root: what is on them, how long they are, and how links make them.
-use Rattle.std.proofs.Common.{◌≡◌, ℕ, zero, suc, ◌+◌, ◌<◌, ◌≤◌, Bool, true, false, cond, not, T, eqb, ◌≢◌, ◌⊎◌, List, length, ℤ, pos, neg_ℤ, is_some, Some, None, Option, sym, refl, ap, ◌∙◌, subst, ap₂, inl, inr, arith, eqb→eq}
+use Rattle.std.proofs.Common.{◌≡◌, ℕ, zero, suc, ◌+◌, ◌<◌, ◌≤◌, Bool, true, false, cond, not, T, eqb, ◌≢◌, ◌⊎◌, List, length, ℤ, pos, neg_ℤ, is_some, Some, None, Option, sym, refl, ap, ◌∙◌, subst, inl, inr, arith, eqb→eq}
 use native.Mathlib.Decide.{ℕ_discrete, dec_le}
 use Rattle.std.proofs.lemmas.List.{get_or_past}
 use Rattle.std.proofs.lemmas.Int.{ints}
 use Rattle.numbers.specs.Totals.{total}
 use Rattle.numbers.proofs.Totals.{total_change}
-use Rattle.network.specs.Arcs.{road_at}
 use Rattle.network.specs.declared.road.Road.{Road}
 use Rattle.residual.specs.Steps.{start, finish, flip, slack}
 use Rattle.residual.specs.declared.step.Step.{Step}
@@ -23,8 +22,7 @@ pub same_parent : (up : ℕ → Option ℕ) (v p q : ℕ) → up v ≡ Some p �
 same_parent up v p q = some_same (up v) p q
 
 pub on_split : (up : ℕ → Option ℕ) (t v : ℕ) → On up t v → (v ≡ t) ⊎ ((p : ℕ) × (up v ≡ Some p) × On up t p)
-on_split up t v here = inl refl
-on_split up t v (above {p = p} e o) = inr (p, e, o)
+on_split up t v h = grind (arith, ints)
 
 pub on_at : (up : ℕ → Option ℕ) (t v : ℕ) → v ≡ t → On up t v
 on_at up t v q = subst (λ u. On up t u) (sym q) here
@@ -34,12 +32,10 @@ on_trans up t s v o here = o
 on_trans up t s v o (above e q) = above e (on_trans up t s _ o q)
 
 pub on_parent : (up : ℕ → Option ℕ) (t v p : ℕ) → v ≢ t → up v ≡ Some p → On up t v → On up t p
-on_parent up t v p d e here = absurd (d refl)
-on_parent up t v p d e (above {p = q} f o) = subst (λ u. On up t u) (same_parent up v q p f e) o
+on_parent up t v p d e h = grind (arith, ints)
 
 pub on_root : (up : ℕ → Option ℕ) (t v : ℕ) → up v ≡ None → On up t v → v ≡ t
-on_root up t v e here = refl
-on_root up t v e (above f o) = absurd (none_some (up v) _ e f)
+on_root up t v e h = grind (arith, ints)
 
 -- whether t is on the way of v
 pub on_or : (up : ℕ → Option ℕ) (t v : ℕ) → Rooted up v → Dec (On up t v)
@@ -110,13 +106,11 @@ unfolding spot
 spot_le {up} {v} (top e) u = pick (eqb u v)
   where
     pick : (b : Bool) → cond b 1 0 ≤ 1
-    pick true = omega arith
-    pick false = omega arith
+    pick b = grind (arith, ints)
 spot_le {up} {v} (under e r) u = pick (eqb u v) (spot_le r u)
   where
     pick : (b : Bool) → spot r u ≤ 1 → cond b 1 (spot r u) ≤ 1
-    pick true k = omega arith
-    pick false k = k
+    pick b k = grind (arith, ints)
 
 spot_off : {up : ℕ → Option ℕ} {v : ℕ} (r : Rooted up v) (u : ℕ) → (On up u v → ⊥) → spot r u ≡ 0
 unfolding spot
@@ -191,11 +185,10 @@ within_on up (suc k) t v h = go (eqb v t) refl (up v) refl h (λ p q. within_on 
     go false e None f g r = absurd g
 
 within_same : (up : ℕ → Option ℕ) (k t v : ℕ) → v ≡ t → T (within up k t v)
-within_same up zero t v q = subst T (sym (ap (λ z. eqb v z) (sym q) ∙ eqb_same v)) tt
-within_same up (suc k) t v q = subst (λ b. T (within_from b (up v) (within up k t))) (sym (ap (λ z. eqb v z) (sym q) ∙ eqb_same v)) tt
+within_same up k t v q = grind (arith, ints)
 
 within_step : (up : ℕ → Option ℕ) (k t v p : ℕ) → v ≢ t → up v ≡ Some p → T (within up k t p) → T (within up (suc k) t v)
-within_step up k t v p d e h = subst (λ b. T (within_from b (up v) (within up k t))) (sym (eqb_apart v t d)) (subst (λ o. T (within_from false o (within up k t))) (sym e) h)
+within_step up k t v p d e h = grind (arith, ints)
 
 pub on_within : {up : ℕ → Option ℕ} {v : ℕ} (k t : ℕ) (r : Rooted up v) → steps r ≤ k → On up t v → T (within up k t v)
 unfolding steps
@@ -203,25 +196,15 @@ on_within {up} {v} k t (top e) h o = within_same up k t v (on_root up t v e o)
 on_within {up} {v} k t (under {p = p} e r) h o = go k h (ℕ_discrete v t) (λ j g d. on_within j t r g (on_parent up t v p d e o))
   where
     go : (k : ℕ) → suc (steps r) ≤ k → Dec (v ≡ t) → ((j : ℕ) → steps r ≤ j → v ≢ t → T (within up j t p)) → T (within up k t v)
-    go k h (yes q) f = within_same up k t v q
-    go zero h (no d) f = absurd (omega arith)
-    go (suc j) h (no d) f = within_step up j t v p d e (f j (omega arith) d)
+    go k h t f = grind (arith, ints)
 
 -- ---- steps and their flips
 
 pub start_flip : (roads : List Road) (s : Step) → start roads (flip s) ≡ finish roads s
-start_flip roads s = go s.along
-  where
-    go : (b : Bool) → cond (not b) (road_at roads s.arc).tail (road_at roads s.arc).head ≡ cond b (road_at roads s.arc).head (road_at roads s.arc).tail
-    go true = refl
-    go false = refl
+start_flip roads s = grind (arith, ints)
 
 pub finish_flip : (roads : List Road) (s : Step) → finish roads (flip s) ≡ start roads s
-finish_flip roads s = go s.along
-  where
-    go : (b : Bool) → cond (not b) (road_at roads s.arc).head (road_at roads s.arc).tail ≡ cond b (road_at roads s.arc).tail (road_at roads s.arc).head
-    go true = refl
-    go false = refl
+finish_flip roads s = grind (arith, ints)
 
 pub slack_flip : (roads : List Road) (w price : ℕ → ℤ) (s : Step) → slack roads w price (flip s) ≡ neg_ℤ (slack roads w price s)
 slack_flip roads w price s = go s.along
@@ -231,23 +214,10 @@ slack_flip roads w price s = go s.along
     go false = omega (arith, ints)
 
 pub flip_flip : (s : Step) → flip (flip s) ≡ s
-flip_flip s = ap (λ b. record { arc = s.arc; along = b }) (go s.along)
-  where
-    go : (b : Bool) → not (not b) ≡ b
-    go true = refl
-    go false = refl
+flip_flip s = grind (arith, ints)
 
 pub same_or_flip : (k l : Step) → k.arc ≡ l.arc → (k ≡ l) ⊎ (k ≡ flip l)
-same_or_flip k l e = go k.along l.along refl refl
-  where
-    make : (b : Bool) → k.along ≡ b → k ≡ record { arc = l.arc; along = b }
-    make b f = ap₂ (λ (a : ℕ) b. record { arc = a; along = b }) e f
-
-    go : (a b : Bool) → k.along ≡ a → l.along ≡ b → (k ≡ l) ⊎ (k ≡ flip l)
-    go true true f g = inl (make l.along (f ∙ sym g))
-    go true false f g = inr (make (not l.along) (f ∙ ap not (sym g)))
-    go false true f g = inr (make (not l.along) (f ∙ ap not (sym g)))
-    go false false f g = inl (make l.along (f ∙ sym g))
+same_or_flip k l e = grind (arith, ints)
 
 -- ---- links
 
@@ -263,52 +233,27 @@ root_is roads links v e = ap (parent roads) e
 
 -- a parent comes by a link, and a root has none
 pub by_link : (roads : List Road) (links : ℕ → Option Step) (v p : ℕ) → ups roads links v ≡ Some p → (s : Step) × (links v ≡ Some s) × (finish roads s ≡ p)
-by_link roads links v p e = go (links v) refl e
-  where
-    go : (o : Option Step) → links v ≡ o → parent roads o ≡ Some p → (s : Step) × (links v ≡ Some s) × (finish roads s ≡ p)
-    go (Some s) f g = (s, f, some_same (Some (finish roads s)) (finish roads s) p refl g)
-    go None f g = absurd (none_some (parent roads None) p refl g)
+by_link roads links v p e = grind (arith, ints)
 
 pub by_none : (roads : List Road) (links : ℕ → Option Step) (v : ℕ) → ups roads links v ≡ None → links v ≡ None
-by_none roads links v e = go (links v) refl e
-  where
-    go : (o : Option Step) → links v ≡ o → parent roads o ≡ None → links v ≡ None
-    go (Some s) f g = absurd (none_some (parent roads (Some s)) (finish roads s) g refl)
-    go None f g = f
+by_none roads links v e = grind (arith, ints)
 
 -- below another node a node has a link
 pub link_above : (roads : List Road) (links : ℕ → Option Step) (t v : ℕ) → On (ups roads links) t v → v ≢ t → is_some (links v) ≡ true
-link_above roads links t v o d = go (on_split (ups roads links) t v o)
-  where
-    some : (s : Step) → links v ≡ Some s → is_some (links v) ≡ true
-    some s e = ap is_some e
-
-    go : (v ≡ t) ⊎ ((p : ℕ) × (ups roads links v ≡ Some p) × On (ups roads links) t p) → is_some (links v) ≡ true
-    go (inl q) = absurd (d q)
-    go (inr k) = let l = by_link roads links v k.0 k.1 in some l.0 l.1
+link_above roads links t v o d = grind (arith, ints)
 
 pub finish_in : (nodes : ℕ) (roads : List Road) → EndsIn nodes roads → (s : Step) → s.arc < length roads → finish roads s < nodes
-finish_in nodes roads E s h = go s.along
-  where
-    go : (b : Bool) → cond b (road_at roads s.arc).head (road_at roads s.arc).tail < nodes
-    go true = E.head s.arc h
-    go false = E.tail s.arc h
+finish_in nodes roads E s h = grind (arith, ints)
 
 pub start_in : (nodes : ℕ) (roads : List Road) → EndsIn nodes roads → (s : Step) → s.arc < length roads → start roads s < nodes
-start_in nodes roads E s h = go s.along
-  where
-    go : (b : Bool) → cond b (road_at roads s.arc).tail (road_at roads s.arc).head < nodes
-    go true = E.tail s.arc h
-    go false = E.head s.arc h
+start_in nodes roads E s h = grind (arith, ints)
 
 -- parents are nodes
 pub parents_in : (nodes : ℕ) (roads : List Road) (links : ℕ → Option Step) → EndsIn nodes roads → Linked roads links → (v p : ℕ) → ups roads links v ≡ Some p → p < nodes
-parents_in nodes roads links E L v p e =
-    let l = by_link roads links v p e in
-    subst (λ z. z < nodes) l.2 (finish_in nodes roads E l.0 (L.inside v l.0 l.1))
+parents_in nodes roads links E L v p e = grind (arith, ints)
 
 pub parent_in : (nodes : ℕ) (roads : List Road) (links : ℕ → Option Step) → EndsIn nodes roads → Linked roads links → (v : ℕ) (s : Step) (p : ℕ) → links v ≡ Some s → p ≡ finish roads s → p < nodes
-parent_in nodes roads links E L v s p e q = parents_in nodes roads links E L v p (up_is roads links v s p e q)
+parent_in nodes roads links E L v s p e q = grind (arith, ints)
 
 -- a step up by a link
 pub climb_falls : (nodes : ℕ) (roads : List Road) (links : ℕ → Option Step) → EndsIn nodes roads → Linked roads links → (v : ℕ) (s : Step) (p : ℕ) → v < nodes → links v ≡ Some s → p ≡ finish roads s

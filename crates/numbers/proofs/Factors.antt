@@ -1,15 +1,9 @@
--- A factor taken away from both sides, products with zero and one, and the range that a distance from zero gives.
+-- A factor taken away from both sides, products with one, and the range that a distance from zero gives.
 use Rattle.std.proofs.Common.{◌≡◌, ℕ, ◌≤◌, ℤ, pos, ◌*ℤ◌, neg_ℤ, nat_abs, ◌≤ℤ◌, ◌<ℤ◌, sym, ap, ◌∙◌, arith}
 use lib.IntN.{*ℤ_comm}
 use borrow.Author.Differences.{abs_is, ints}
 use Rattle.std.proofs.lemmas.Int.{by_lt_z}
 use Rattle.numbers.proofs.Products.{lin, mul_neg, le_of_mul}
-
-pub zero_right : (k : ℤ) → k *ℤ pos 0 ≡ pos 0
-zero_right k = omega (arith, ints)
-
-pub zero_left : (k : ℤ) → pos 0 *ℤ k ≡ pos 0
-zero_left k = omega (arith, ints)
 
 pub one_right : (k : ℤ) → k *ℤ pos 1 ≡ k
 one_right k = omega (arith, ints)

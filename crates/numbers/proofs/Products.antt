@@ -1,5 +1,5 @@
 -- Products of whole numbers: their laws, their order and their range, and two sets of rules by which `omega` sees through them.
-use Rattle.std.proofs.Common.{◌≡◌, ℕ, zero, suc, ◌+◌, ◌*◌, ◌<◌, ◌≤◌, ℤ, pos, negsuc, ◌+ℤ◌, ◌-ℤ◌, ◌*ℤ◌, neg_ℤ, nat_abs, ◌≤ℤ◌, ◌<ℤ◌, refl, ap, mul-le-mul, mul-le-mul_left, arith}
+use Rattle.std.proofs.Common.{◌≡◌, ℕ, ◌+◌, ◌*◌, ◌<◌, ◌≤◌, ℤ, pos, negsuc, ◌+ℤ◌, ◌-ℤ◌, ◌*ℤ◌, neg_ℤ, nat_abs, ◌≤ℤ◌, ◌<ℤ◌, ap, mul-le-mul, mul-le-mul_left, arith}
 use native.Mathlib.Nat.{mul-lt-mul_of_pos_left}
 use lib.IntN.{*ℤ_comm}
 use borrow.Author.Differences.{up, down, same_out, same_in, lt_out, le_out, below_in, at_most_in, sum_is_lem, neg_is, product_is, ints}
@@ -14,9 +14,7 @@ pub mul_sum : (a b c : ℤ) → a *ℤ (b +ℤ c) ≡ a *ℤ b +ℤ a *ℤ c
 mul_sum a b c = same_in _ _ (omega (arith, ints, ap (λ n. up a * n) (sum_is_lem b c), ap (λ n. down a * n) (sum_is_lem b c)))
 
 pub mul_neg : (a b : ℤ) → a *ℤ neg_ℤ b ≡ neg_ℤ (a *ℤ b)
-mul_neg a b =
-    same_in _ _
-    (omega (arith, ints, ap (λ n. up a * n) (neg_is b).0, ap (λ n. down a * n) (neg_is b).0, ap (λ n. up a * n) (neg_is b).1, ap (λ n. down a * n) (neg_is b).1))
+mul_neg a b = grind (arith, ints)
 
 pub mul_assoc : (a b c : ℤ) → (a *ℤ b) *ℤ c ≡ a *ℤ (b *ℤ c)
 mul_assoc a b c =
@@ -86,18 +84,7 @@ rearrange_lt n m o z h k = omega (arith, poly, mul_lt (m -ℤ n) o z (omega (ari
 -- ---- range
 
 pub far_of_product : (a b : ℤ) → nat_abs (a *ℤ b) ≡ nat_abs a * nat_abs b
-far_of_product (pos a) (pos b) = refl
-far_of_product (pos a) (negsuc b) = far_neg (a * suc b)
-  where
-    far_neg : (n : ℕ) → nat_abs (neg_ℤ (pos n)) ≡ n
-    far_neg zero = refl
-    far_neg (suc n) = refl
-far_of_product (negsuc a) (pos b) = far_neg (suc a * b)
-  where
-    far_neg : (n : ℕ) → nat_abs (neg_ℤ (pos n)) ≡ n
-    far_neg zero = refl
-    far_neg (suc n) = refl
-far_of_product (negsuc a) (negsuc b) = refl
+far_of_product a b = grind (arith, ints)
 
 pub product_near : (A C : ℕ) (a b : ℤ) → nat_abs a ≤ A → nat_abs b ≤ C → nat_abs (a *ℤ b) ≤ A * C
 product_near A C a b h k = omega (arith, far_of_product a b, mul-le-mul h k)

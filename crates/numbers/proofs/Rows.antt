@@ -1,6 +1,7 @@
 -- All rows of numbers up to given ones: finitely many, so that what can be decided of a row can be decided of all of them.
-use Rattle.std.proofs.Common.{◌≡◌, ℕ, zero, suc, ◌<◌, ◌≤◌, List, [], ◌∷◌, ◌++◌, map, length, get_or, sym, refl, ap, subst, inl, inr, arith}
-use native.Mathlib.Decide.{dec_le, ℕ_discrete}
+use Rattle.std.proofs.Common.{◌≡◌, ℕ, zero, suc, ◌<◌, ◌≤◌, List, [], ◌∷◌, ◌++◌, map, length, get_or, refl, ap, subst, inl, inr, arith}
+use Rattle.std.proofs.lemmas.Int.{ints}
+use native.Mathlib.Decide.{dec_le}
 use Rattle.numbers.specs.Rows.{Has, spread, rows}
 
 has_left : {A : Type 0} (a : A) (l k : List A) → Has a l → Has a (l ++ k)
@@ -37,19 +38,11 @@ in_rows (m ∷ ms) (x ∷ xs) e h = in_spread m x xs (rows ms) (h 0 (omega arith
 -- ---- deciding
 
 pub both_dec : {A B : Type 0} → Dec A → Dec B → Dec (A × B)
-both_dec (yes a) (yes b) = yes (a, b)
-both_dec (no a) d = no (λ p. a p.0)
-both_dec (yes a) (no b) = no (λ p. b p.1)
+both_dec h k = grind (arith, ints)
 
 pub all_dec : (n : ℕ) (P : ℕ → Type 0) → ((i : ℕ) → Dec (P i)) → Dec ((i : ℕ) → i < n → P i)
 all_dec zero P d = yes (λ i h. absurd (omega arith))
 all_dec (suc n) P d = both (all_dec n P d) (d n)
   where
     both : Dec ((i : ℕ) → i < n → P i) → Dec (P n) → Dec ((i : ℕ) → i < suc n → P i)
-    both (yes f) (yes p) = yes (λ i h. pick i h (ℕ_discrete i n))
-      where
-        pick : (i : ℕ) → i < suc n → Dec (i ≡ n) → P i
-        pick i h (yes e) = subst P (sym e) p
-        pick i h (no k) = f i (omega arith)
-    both (no f) d = no (λ g. f (λ i h. g i (omega arith)))
-    both (yes f) (no p) = no (λ g. p (g n (omega arith)))
+    both h k = grind (arith, ints)

@@ -1,5 +1,6 @@
 -- Points that some list has: their minima are found by going through it, and the search then builds their full list.
-use Rattle.std.proofs.Common.{◌≡◌, ℕ, zero, suc, ◌⊎◌, List, [], ◌∷◌, ◌++◌, ℤ, pos, ◌+ℤ◌, ◌-ℤ◌, ◌≤ℤ◌, ◌<ℤ◌, refl, ap, subst, inl, inr, ⊎_elim, arith}
+use Rattle.std.proofs.Common.{◌≡◌, ℕ, zero, suc, ◌⊎◌, List, [], ◌∷◌, ◌++◌, ℤ, pos, ◌+ℤ◌, ◌-ℤ◌, ◌≤ℤ◌, refl, ap, subst, inl, inr, ⊎_elim, arith}
+use Rattle.std.proofs.lemmas.Int.{ints}
 use borrow.Author.Differences.{up}
 use Rattle.std.proofs.lemmas.Int.{by_lt_z}
 use Rattle.numbers.proofs.Products.{lin}
@@ -23,17 +24,10 @@ module _ (f g : Point → ℤ) where
   beats_self x y e = (omega (arith, lin, ap f e), λ h. omega (arith, lin, ap g e))
 
   beats_through : (x y z : Point) → Beats x y → Beats y z → Beats x z
-  beats_through x y z h k =
-      (omega (arith, lin), λ e. omega (arith, lin, h.1 (omega (arith, lin, h.0, k.0)), k.1 (omega (arith, lin, h.0, k.0))))
+  beats_through x y z h k = grind (arith, ints)
 
   beats_either : (x y : Point) → Beats x y ⊎ Beats y x
-  beats_either x y = by_lt_z (f x) (f y) (λ h. inl (less x y h)) (λ h. by_lt_z (f y) (f x) (λ k. inr (less y x k)) (level h))
-    where
-      less : (u v : Point) → f u <ℤ f v → Beats u v
-      less u v h = (omega (arith, lin), λ e. omega (arith, lin))
-
-      level : f y ≤ℤ f x → f x ≤ℤ f y → Beats x y ⊎ Beats y x
-      level h k = by_lt_z (g x) (g y) (λ m. inl (k, λ e. omega (arith, lin))) (λ m. inr (h, λ e. m))
+  beats_either x y = grind (arith, ints)
 
   best : (x : Point) (l : List Point) → (z : Point) × In z (x ∷ l) × ((y : Point) → In y (x ∷ l) → Beats z y)
   best x [] = (x, inl refl, only)

@@ -1,9 +1,9 @@
 -- Lexicographic minima are corners, and what Weigh gives is one of them.
 use Rattle.std.proofs.Common.{◌≡◌, ℕ, ℤ, pos, ◌+ℤ◌, ◌*ℤ◌, neg_ℤ, ◌≤ℤ◌, ◌<ℤ◌, sym, refl, ap, ◌∙◌, arith}
-use lib.IntN.{*ℤ_comm}
+use lib.IntN.{*ℤ_comm, *ℤ-zero, zero-*ℤ}
 use Rattle.std.proofs.lemmas.Int.{by_lt_z}
 use Rattle.numbers.proofs.Products.{lin, mul_sum, mul_neg, mul_le, mul_from, le_of_mul}
-use Rattle.numbers.proofs.Factors.{zero_right, zero_left, one_right, same_of_mul_above, from_below, from_above}
+use Rattle.numbers.proofs.Factors.{one_right, same_of_mul_above, from_below, from_above}
 use Rattle.plane.specs.Points.{Point, first, second, weigh, Corner, Least, Within}
 use Rattle.plane.specs.Facts.{Telling, MinimumOf, LightestOf, LightestOneOf, WeighOf, WeighFirstOf}
 use Rattle.plane.proofs.Sides.{same_point, weigh_first, weigh_second, weigh_tilted, told_apart}
@@ -83,7 +83,7 @@ second_tells p q p_above q_from = record {
   s_from = omega (arith, lin);
   first_counts = omega (arith, lin);
   second_counts = omega (arith, lin);
-  apart = λ e. omega (arith, lin, one_right p, zero_right q);
+  apart = λ e. omega (arith, lin, one_right p, *ℤ-zero q);
 }
 
 pub first_tells : (p q : ℤ) → pos 0 ≤ℤ p → pos 0 <ℤ q → Telling p q (pos 1) (pos 0)
@@ -94,7 +94,7 @@ first_tells p q p_from q_above = record {
   s_from = omega (arith, lin);
   first_counts = omega (arith, lin);
   second_counts = omega (arith, lin);
-  apart = λ e. omega (arith, lin, zero_right p, one_right q);
+  apart = λ e. omega (arith, lin, *ℤ-zero p, one_right q);
 }
 
 pub least_alike : (P : Point → Type 0) (f g u v : Point → ℤ) → ((y : Point) → f y ≡ u y) → ((y : Point) → g y ≡ v y) → (z : Point) → Least P f g z → Least P u v z
@@ -139,7 +139,7 @@ lightest_of P B p q z w p_from q_from some l = by_lt_z (pos 0) q by_first by_sec
     by_second q_most =
         let nothing : q ≡ pos 0 = omega (arith, lin) in
         let p_above : pos 0 <ℤ p = omega (arith, lin) in
-        let unweighed : (y : Point) → q *ℤ y.1 ≡ pos 0 = λ y. ap (λ x. x *ℤ y.1) nothing ∙ zero_left y.1 in
+        let unweighed : (y : Point) → q *ℤ y.1 ≡ pos 0 = λ y. ap (λ x. x *ℤ y.1) nothing ∙ zero-*ℤ y.1 in
         sought_corner B P p q z w p_above q_from (record {
           stands = l.stands;
           least = l.lightest;
@@ -164,6 +164,6 @@ pub weigh_first_of : (P : Point → Type 0) → WeighFirstOf P
 weigh_first_of P p z p_above l = record {
   stands = l.stands;
   lightest = l.least;
-  then_first = λ y h e. le_of_mul p z.0 y.0 p_above (omega (arith, lin, zero_left y.1, zero_left z.1));
+  then_first = λ y h e. le_of_mul p z.0 y.0 p_above (omega (arith, lin, zero-*ℤ y.1, zero-*ℤ z.1));
   then_second = λ y h e f. l.tie y h e;
 }

@@ -1,28 +1,24 @@
 -- Points and weights: what tells points apart, and on which side of one another two points lie.
 use Rattle.std.proofs.Common.{◌≡◌, ℤ, pos, ◌+ℤ◌, ◌-ℤ◌, ◌*ℤ◌, ◌≤ℤ◌, ◌<ℤ◌, sym, ap, ◌∙◌, arith}
-use lib.IntN.{*ℤ_comm, ℤ_discrete}
+use Rattle.std.proofs.lemmas.Int.{ints}
+use lib.IntN.{*ℤ_comm, zero-*ℤ}
 use Rattle.std.proofs.lemmas.Int.{by_lt_z}
 use Rattle.numbers.proofs.Products.{lin, poly, mul_le, mul_lt, rearrange, rearrange_lt}
-use Rattle.numbers.proofs.Factors.{zero_left, one_left, same_of_mul}
-use Rattle.plane.specs.Points.{Point, first, second, weigh, turn_p, turn_q}
+use Rattle.numbers.proofs.Factors.{one_left, same_of_mul}
+use Rattle.plane.specs.Points.{Point, weigh, turn_p, turn_q}
 
 pub same_point : (y z : Point) → y.0 ≡ z.0 → y.1 ≡ z.1 → y ≡ z
 same_point y z e f i = (e i, f i)
 
 pub point_decide : (y z : Point) → Dec (y ≡ z)
-point_decide y z = both (ℤ_discrete y.0 z.0) (ℤ_discrete y.1 z.1)
-  where
-    both : Dec (y.0 ≡ z.0) → Dec (y.1 ≡ z.1) → Dec (y ≡ z)
-    both (yes e) (yes f) = yes (same_point y z e f)
-    both (yes e) (no n) = no (λ f. n (ap second f))
-    both (no n) d = no (λ e. n (ap first e))
+point_decide y z = grind (arith, ints)
 
 -- the costs themselves are weights
 pub weigh_first : (z : Point) → weigh (pos 1) (pos 0) z ≡ z.0
-weigh_first z = omega (arith, lin, one_left z.0, zero_left z.1)
+weigh_first z = omega (arith, lin, one_left z.0, zero-*ℤ z.1)
 
 pub weigh_second : (z : Point) → weigh (pos 0) (pos 1) z ≡ z.1
-weigh_second z = omega (arith, lin, zero_left z.0, one_left z.1)
+weigh_second z = omega (arith, lin, zero-*ℤ z.0, one_left z.1)
 
 -- many times the one weight and once the other
 pub weigh_tilted : (k p q r s : ℤ) (z : Point) → weigh (k *ℤ p +ℤ r) (k *ℤ q +ℤ s) z ≡ k *ℤ weigh p q z +ℤ weigh r s z

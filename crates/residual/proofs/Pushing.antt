@@ -20,10 +20,7 @@ use Rattle.residual.specs.declared.step.Step.{Step}
 -- ---- flows and excess
 
 pub flow_even : (n : Net) (x : List ℕ) → Flow n x → (v : ℕ) → v < node_count n → excess n x v ≡ pos 0
-flow_even n x f v h = go (stock_at n.stocks v) (pos (outflow n.roads (on x) v) -ℤ pos (inflow n.roads (on x) v)) (f.kept v h)
-  where
-    go : (s t : ℤ) → t ≡ s → s -ℤ t ≡ pos 0
-    go s t e = omega (arith, ints)
+flow_even n x f v h = grind (arith, ints)
 
 pub flow_bounded : (n : Net) (x : List ℕ) → Flow n x → Bounded n.roads x
 flow_bounded n x f = record { long = f.long; low = f.low; high = f.high }
@@ -89,12 +86,10 @@ module _ (n : Net) (x : List ℕ) (s : Step) (d : ℕ) (inside : s.arc < arc_cou
   }
     where
       at_low : (c : Bool) (y l m : ℕ) → l ≤ y → d ≤ cond c (m - y) (y - l) → l ≤ cond c (y + d) (y - d)
-      at_low true y l m p q = omega arith
-      at_low false y l m p q = omega arith
+      at_low c y l m p q = grind (arith, ints)
 
       at_high : (c : Bool) (y l m : ℕ) → y ≤ m → d ≤ cond c (m - y) (y - l) → cond c (y + d) (y - d) ≤ m
-      at_high true y l m p q = omega arith
-      at_high false y l m p q = omega arith
+      at_high c y l m p q = grind (arith, ints)
 
       low : (a : ℕ) → a < arc_count n → Dec (a ≡ s.arc) → (road_at n.roads a).least ≤ on (pushed x s d) a
       low a k (yes e) =
@@ -179,8 +174,7 @@ module _ (n : Net) (x : List ℕ) (s : Step) (d : ℕ) (inside : s.arc < arc_cou
       ∙ go s.along (on x s.arc) (road_at n.roads s.arc).least (road_at n.roads s.arc).most (B.low s.arc inside) wide
     where
       go : (b : Bool) (y l m : ℕ) → l ≤ y → d ≤ cond b (m - y) (y - l) → cond b (m - cond b (y + d) (y - d)) (cond b (y + d) (y - d) - l) + d ≡ cond b (m - y) (y - l)
-      go true y l m p q = omega arith
-      go false y l m p q = omega arith
+      go b y l m p q = grind (arith, ints)
 
   pub room_back : room n.roads (pushed x s d) (flip s) ≡ room n.roads x (flip s) + d
   room_back =
@@ -188,8 +182,7 @@ module _ (n : Net) (x : List ℕ) (s : Step) (d : ℕ) (inside : s.arc < arc_cou
       ∙ go s.along (on x s.arc) (road_at n.roads s.arc).least (road_at n.roads s.arc).most (B.low s.arc inside) (B.high s.arc inside) wide
     where
       go : (b : Bool) (y l m : ℕ) → l ≤ y → y ≤ m → d ≤ cond b (m - y) (y - l) → cond (not b) (m - cond b (y + d) (y - d)) (cond b (y + d) (y - d) - l) ≡ cond (not b) (m - y) (y - l) + d
-      go true y l m p r q = omega arith
-      go false y l m p r q = omega arith
+      go b y l m p r q = grind (arith, ints)
 
 -- ---- one move after another
 

@@ -1,8 +1,79 @@
-// Residual steps.
+// Residual steps: where one leads, how many chests can still go over it, and pushing some.
+ghost use Rattle.std.specs.Prelude.{◌≡◌, ◌<◌, ◌≤◌, length};
+ghost use Rattle.network.specs.Arcs.{road_at};
+ghost use Rattle.residual.specs.Steps.{start, finish, flip, room, pushed, Bounded};
+
+use network::road::{End, Road};
 
 /// A step of the residual graph: over an arc, from tail to head (`along`) or back.
+// kept: which way is a yes or no with a name, turned by `!`; an enum would want a match for each turn, and says no more.
 #[derive(Clone, Copy, Debug, PartialEq, Eq)]
 pub struct Step {
     pub arc: u32,
     pub along: bool,
+}
+
+impl Step {
+    // The road of its arc; past the last one a road that carries nothing.
+    fn road(self, roads: &[Road]) -> Road
+        ensures { result ≡ road_at roads.now self.arc }
+    {
+        roads.get(self.arc as usize).copied().unwrap_or_default()
+    }
+
+    /// The node that it leaves.
+    pub fn start(self, roads: &[Road]) -> usize
+        ensures { result ≡ start roads.now self }
+    {
+        let end = if self.along { End::Tail } else { End::Head };
+        self.road(roads).end_node(end) as usize
+    }
+
+    /// The node that it leads to.
+    pub fn finish(self, roads: &[Road]) -> usize
+        ensures { result ≡ finish roads.now self }
+    {
+        self.back().start(roads)
+    }
+
+    /// The same arc the other way.
+    pub fn back(self) -> Step
+        ensures { result ≡ flip self }
+    {
+        Step {
+            along: !self.along,
+            ..self
+        }
+    }
+
+    /// How many more chests can go this way.
+    pub fn room(self, roads: &[Road], flow: &[u32]) -> u32
+        requires { Bounded roads.now flow.now }
+        ensures { result ≡ room roads.now flow.now self }
+    {
+        let road = self.road(roads);
+        let chests = flow.get(self.arc as usize).copied().unwrap_or(0);
+        if self.along {
+            road.most - chests
+        } else {
+            chests - road.least
+        }
+    }
+
+    /// Sends some chests more this way.
+    pub fn push(self, roads: &[Road], flow: &mut [u32], chests: u32)
+        requires bounded { Bounded roads.now flow.old }
+        requires inside { self.arc < length roads.now }
+        requires room { chests ≤ room roads.now flow.old self }
+        ensures { flow.new ≡ pushed flow.old self chests }
+    {
+        let Road { least, most, .. } = roads[self.arc as usize];
+        let carried = &mut flow[self.arc as usize];
+        if self.along {
+            *carried += chests;
+        } else {
+            *carried -= chests;
+        }
+        prove!((least..=most).contains(carried));
+    }
 }

@@ -1,29 +1,32 @@
 -- The test of a flow against reduced worths.
-use Rattle.std.proofs.Common.{◌≡◌, ℕ, ◌<◌, Bool, true, false, List, length, get_or, Decides, sym, refl, ◌∙◌, subst}
+use Rattle.std.proofs.Common.{◌≡◌, ℕ, ◌<◌, Bool, true, false, List, length, get_or, Decides, sym, refl, ap, ◌∙◌, subst, MatchBool, arith}
+use Rattle.std.proofs.lemmas.Int.{ints}
+use Rattle.network.specs.Arcs.{road_at, nowhere}
 use Rattle.network.specs.declared.road.Road.{Road}
-use Rattle.network.specs.Arcs.{road_at}
-use Rattle.std.proofs.lemmas.Bool.{false≢true}
+use Rattle.std.specs.List.{AllWithin, HoldsAt, enumerate_from}
+use Rattle.std.proofs.lemmas.List.FromFn.{length-enumerate_from, get_or-enumerate_from}
 use Rattle.std.proofs.lemmas.Bool.Decides.{Decides-like}
 use Rattle.worths.specs.Kinds.{Pair, ranked}
-use Rattle.worths.specs.Fit.{FitsBy, FitsArc}
+use Rattle.worths.specs.Fit.{FitsBy}
 use Rattle.worths.specs.Values.{NearPair, wrapped_pair, max_exact}
 use Rattle.worths.proofs.Ranges.{wrapped_near}
 
--- an arc's test, with what it read put in place
-pub decides_arc : (b : Bool) (r : Road) (u w : Pair) (m n : ℕ) → u ≡ w → m ≡ n → Decides b (FitsArc ranked r u m) → Decides b (FitsArc ranked r w n)
-decides_arc b r u w m n p q d = subst (λ k. Decides b (FitsArc ranked r w k)) q (subst (λ v. Decides b (FitsArc ranked r v m)) p d)
+-- a road with its number, read at that number
+numbered : (roads : List Road) (a : ℕ) → a < length roads → get_or (enumerate_from 0 roads) a (0, nowhere) ≡ (a, road_at roads a)
+numbered roads a l = get_or-enumerate_from 0 roads a (0, nowhere) l ∙ ap (λ (k : ℕ). (k, road_at roads a)) (omega arith)
 
--- all of the arcs fit, and one does not
-pub all_fit : (roads : List Road) (f : ℕ → Pair) (x : List ℕ) → FitsBy ranked roads f x → Decides true (FitsBy ranked roads f x)
-all_fit roads f x fit = (λ _. fit, λ _. refl)
+-- a test of each road with its number is a test of each arc
+pub decides_arcs :
+    (r : Bool) (roads : List Road) (P : ℕ → Road → Type 0)
+    → MatchBool r (AllWithin (λ (x : ℕ × Road). P x.0 x.1) (enumerate_from 0 roads) 0 (length (enumerate_from 0 roads))) ((k : ℕ) × (k < length (enumerate_from 0 roads)) × HoldsAt (λ (x : ℕ × Road). P x.0 x.1 → ⊥) (enumerate_from 0 roads) k)
+    → Decides r ((a : ℕ) → a < length roads → P a (road_at roads a))
+decides_arcs true roads P all = (λ _ a l. subst (λ (x : ℕ × Road). P x.0 x.1) (numbered roads a l) (all a (0, nowhere) (omega arith) (rw length-enumerate_from l)), λ _. refl)
+decides_arcs false roads P (a, l, none) =
+    let k : a < length roads = rw length-enumerate_from at l in
+    (λ t. cc, λ all. absurd (none (0, nowhere) (subst (λ (x : ℕ × Road). P x.0 x.1) (sym (numbered roads a k)) (all a k))))
 
-pub one_unfit :
-    (roads : List Road) (f : ℕ → Pair) (x : List ℕ) (b : Bool) (a : ℕ) → a < length roads → Decides b (FitsArc ranked (road_at roads a) (f a) (get_or x a 0)) → b ≡ false
-    → Decides false (FitsBy ranked roads f x)
-one_unfit roads f x b a l d e = (λ t. absurd (false≢true t), λ fit. sym e ∙ d.1 (fit a l))
-
-pub fits_same : (roads : List Road) (f g : ℕ → Pair) (x : List ℕ) → ((a : ℕ) → a < length roads → f a ≡ g a) → FitsBy ranked roads f x → FitsBy ranked roads g x
-fits_same roads f g x e fit a l = subst (λ u. FitsArc ranked (road_at roads a) u (get_or x a 0)) (e a l) (fit a l)
+fits_same : (roads : List Road) (f g : ℕ → Pair) (x : List ℕ) → ((a : ℕ) → a < length roads → f a ≡ g a) → FitsBy ranked roads f x → FitsBy ranked roads g x
+fits_same roads f g x e fit a l = grind (arith, ints)
 
 -- a test by wrapped reduced worths is a test by the true ones, where these are near
 pub exact_fits :

@@ -1,7 +1,6 @@
 -- How far rows of pairs can still fall: a number that grows less whenever some of them fall.
-use Rattle.std.proofs.Common.{◌≡◌, ℕ, zero, suc, ◌+◌, ◌*◌, ◌<◌, ◌≤◌, Bool, true, false, not, ◌&&◌, ◌||◌, T, ◌⊎◌, ℤ, pos, ◌+ℤ◌, nat_abs, ◌≤ℤ◌, ◌<ℤ◌, refl, ap, subst, inl, inr, mul-le-mul_right, suc-mul, arith}
+use Rattle.std.proofs.Common.{◌≡◌, ℕ, zero, suc, ◌+◌, ◌*◌, ◌<◌, ◌≤◌, not, T, ◌⊎◌, ℤ, pos, ◌+ℤ◌, nat_abs, ◌≤ℤ◌, ◌<ℤ◌, refl, ap, subst, inl, inr, mul-le-mul_right, suc-mul, arith}
 use native.Mathlib.Decide.{ℕ_discrete}
-use lib.Signed.{lt_z, le_z}
 use borrow.Author.Differences.{ints, abs_is}
 use Rattle.numbers.specs.Totals.{total}
 use Rattle.numbers.proofs.Totals.{total_same, total_le}
@@ -32,13 +31,7 @@ seconds_le (suc n) far p h = more (total n (λ v. nat_abs ((p v).1 +ℤ pos far)
 
 -- a pair below zero: by its first part, or by its second where the first is zero
 pub below_parts : (d : Pair) → T (not (at_most_pair (pos 0, pos 0) d)) → (d.0 <ℤ pos 0) ⊎ ((d.0 ≡ pos 0) × (d.1 <ℤ pos 0))
-below_parts d t = go (lt_z (pos 0) d.0) (le_z (pos 0) d.0) (le_z (pos 0) d.1) refl refl refl t
-  where
-    go : (a b c : Bool) → lt_z (pos 0) d.0 ≡ a → le_z (pos 0) d.0 ≡ b → le_z (pos 0) d.1 ≡ c → T (not (a || (b && c))) → (d.0 <ℤ pos 0) ⊎ ((d.0 ≡ pos 0) × (d.1 <ℤ pos 0))
-    go true b c e f g t = absurd t
-    go false true true e f g t = absurd t
-    go false true false e f g t = inr (omega (arith, ints), omega (arith, ints))
-    go false false c e f g t = inl (omega (arith, ints))
+below_parts d t = grind (arith, ints)
 
 -- q is p with some pairs moved by d
 abbrev pub Fallen : ℕ → (ℕ → Pair) → (ℕ → Pair) → Pair → Type 0
@@ -57,26 +50,17 @@ module _ (n far : ℕ) (p q : ℕ → Pair) (d : Pair) (near_p : (v : ℕ) → v
   -- one part of one pair, which does not rise
   part_le : (a b e : ℤ) → nat_abs a ≤ far → nat_abs b ≤ far → (b ≡ a) ⊎ (b ≡ a +ℤ e) → e ≤ℤ pos 0 → rise far b ≤ rise far a
   unfolding rise
-  part_le a b e h k (inl s) l = omega (arith, ints, abs_is)
-  part_le a b e h k (inr s) l = omega (arith, ints, abs_is)
+  part_le a b e h k s l = grind (arith, ints, abs_is)
 
   part_lt : (a b e : ℤ) → nat_abs a ≤ far → nat_abs b ≤ far → b ≡ a +ℤ e → e <ℤ pos 0 → rise far b < rise far a
   unfolding rise
   part_lt a b e h k s l = omega (arith, ints, abs_is)
 
   first_of : (v : ℕ) → v < n → ((q v).0 ≡ (p v).0) ⊎ ((q v).0 ≡ (p v).0 +ℤ d.0)
-  first_of v k = go (fallen v k)
-    where
-      go : (q v ≡ p v) ⊎ (q v ≡ plus_pair (p v) d) → ((q v).0 ≡ (p v).0) ⊎ ((q v).0 ≡ (p v).0 +ℤ d.0)
-      go (inl e) = inl (ap (λ (z : Pair). z.0) e)
-      go (inr e) = inr (ap (λ (z : Pair). z.0) e)
+  first_of v k = grind (arith, ints, fallen v k)
 
   second_of : (v : ℕ) → v < n → ((q v).1 ≡ (p v).1) ⊎ ((q v).1 ≡ (p v).1 +ℤ d.1)
-  second_of v k = go (fallen v k)
-    where
-      go : (q v ≡ p v) ⊎ (q v ≡ plus_pair (p v) d) → ((q v).1 ≡ (p v).1) ⊎ ((q v).1 ≡ (p v).1 +ℤ d.1)
-      go (inl e) = inl (ap (λ (z : Pair). z.1) e)
-      go (inr e) = inr (ap (λ (z : Pair). z.1) e)
+  second_of v k = grind (arith, ints, fallen v k)
 
   -- moved by less than nothing, one of them at least: the height falls
   pub height_falls : T (not (at_most_pair (pos 0, pos 0) d)) → (u : ℕ) → u < n → q u ≡ plus_pair (p u) d → height n far q < height n far p

@@ -1,7 +1,5 @@
 pub mod Ranges
-pub mod Rows
 pub mod Fitting
 pub mod Parts
 pub mod Heights
 pub mod Falling
-pub mod Compared

@@ -2,29 +2,15 @@
 use Rattle.std.proofs.Common.{ℕ, ℤ, pos, arith}
 use Rattle.network.specs.declared.road.Road.{Road}
 use Rattle.std.proofs.lemmas.Int.{ints}
-use Rattle.worths.specs.Kinds.{Pair, Above, Below, plain, ranked}
+use Rattle.worths.specs.Kinds.{Pair, plain, ranked}
 use Rattle.worths.specs.Fit.{FitsArc, reduced}
 use Rattle.worths.specs.Facts.{FirstPartsFit, PlainIsRanked}
 
--- the first part decides wherever it is not zero
-above_by_first : (u : Pair) → Above plain u.0 → Above ranked u
-above_by_first u h = grind (arith, ints)
-
-below_by_first : (u : Pair) → Below plain u.0 → Below ranked u
-below_by_first u h = grind (arith, ints)
-
--- with second part 0 it decides alone
-first_above : (a : ℤ) → Above ranked (a, pos 0) → Above plain a
-first_above a h = grind (arith, ints)
-
-first_below : (a : ℤ) → Below ranked (a, pos 0) → Below plain a
-first_below a h = grind (arith, ints)
-
 pub first_part_fits : (r : Road) (u : Pair) (chests : ℕ) → FitsArc ranked r u chests → FitsArc plain r u.0 chests
-first_part_fits r u chests f = record { above = λ h. f.above (above_by_first u h); below = λ h. f.below (below_by_first u h) }
+first_part_fits r u chests f = grind (arith, ints)
 
 pub plain_part_fits : (r : Road) (a : ℤ) (chests : ℕ) → FitsArc plain r a chests → FitsArc ranked r (a, pos 0) chests
-plain_part_fits r a chests f = record { above = λ h. f.above (first_above a h); below = λ h. f.below (first_below a h) }
+plain_part_fits r a chests f = grind (arith, ints)
 
 pub first_parts : FirstPartsFit
 first_parts roads worth tie price x fit a l = first_part_fits _ (reduced ranked roads (λ k. (worth k, tie k)) price a) _ (fit a l)

@@ -1,5 +1,5 @@
 -- Where sums and negations of worths are exact.
-use Rattle.std.proofs.Common.{◌≡◌, ℕ, ◌+◌, ◌^◌, ◌<◌, ◌≤◌, ℤ, pos, ◌+ℤ◌, neg_ℤ, nat_abs, refl, ◌∙◌, arith, lit<, lit≤, w64, SFits}
+use Rattle.std.proofs.Common.{◌≡◌, ℕ, ◌+◌, ◌^◌, ◌<◌, ◌≤◌, ℤ, pos, ◌+ℤ◌, nat_abs, refl, ◌∙◌, arith, lit<, w64, SFits}
 use Rattle.network.specs.declared.road.Road.{Road}
 use Rattle.std.specs.Int.{int_wrap}
 use Rattle.std.proofs.lemmas.Int.{ints, int_wrap_fits, int_wrap-add_left, int_wrap-add_right}
@@ -8,23 +8,14 @@ use Rattle.worths.specs.Kinds.{Pair, plus_pair, minus_pair, ranked}
 use Rattle.worths.specs.Laws.{pair_eq}
 use Rattle.worths.specs.Values.{NearPair, wrapped_pair, max_exact, max_worth, max_price}
 
-abs_plus : (a b : ℤ) (m n : ℕ) → nat_abs a ≤ m → nat_abs b ≤ n → nat_abs (a +ℤ b) ≤ m + n
-abs_plus a b m n h k = omega (arith, ints)
-
-abs_minus : (a : ℤ) (n : ℕ) → nat_abs a ≤ n → nat_abs (neg_ℤ a) ≤ n
-abs_minus a n h = omega (arith, ints)
-
 abs_fits : (a : ℤ) (n : ℕ) → nat_abs a ≤ n → n < 2 ^ 63 → SFits w64 a
 abs_fits a n h k = omega (arith, ints)
 
 pub near_plus : (u v : Pair) (m n : ℕ) → NearPair m u → NearPair n v → NearPair (m + n) (plus_pair u v)
-near_plus u v m n h k = record {
-  first = abs_plus u.0 v.0 m n h.first k.first;
-  second = abs_plus u.1 v.1 m n h.second k.second;
-}
+near_plus u v m n h k = grind (arith, ints)
 
 pub near_minus : (u : Pair) (n : ℕ) → NearPair n u → NearPair n (minus_pair u)
-near_minus u n h = record { first = abs_minus u.0 n h.first; second = abs_minus u.1 n h.second }
+near_minus u n h = grind (arith, ints)
 
 pub near_within : (u : Pair) (m n : ℕ) → m ≤ n → NearPair m u → NearPair n u
 near_within u m n l h = omega arith
@@ -51,8 +42,4 @@ wrapped_plus u v = pair_eq (part u.0 v.0) (part u.1 v.1)
 pub near_reduced :
     (r : Road) (worth : Pair) (price : ℕ → Pair) → NearPair max_worth worth → NearPair max_price (price r.tail) → NearPair max_price (price r.head)
     → NearPair max_exact (reduced_by ranked r worth price)
-near_reduced r worth price near_worth near_tail near_head =
-    let sum = near_plus worth (price r.tail) max_worth max_price near_worth near_tail in
-    let less = near_minus (price r.head) max_price near_head in
-    near_within (reduced_by ranked r worth price) (max_worth + max_price + max_price) max_exact (lit≤ tt)
-    (near_plus (plus_pair worth (price r.tail)) (minus_pair (price r.head)) (max_worth + max_price) max_price sum less)
+near_reduced r worth price near_worth near_tail near_head = grind (arith, ints)

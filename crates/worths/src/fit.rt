@@ -6,23 +6,25 @@ ghost use Rattle.worths.specs.Values.{NearPair, wrapped_pair, row_of, max_exact}
 ghost use Rattle.worths.specs.Fit.{Fits, FitsBy, FitsArc};
 ghost use Rattle.worths.specs.Rows.{reduced_of};
 
-use crate::worth::{Worth, is_above, is_below};
+use crate::worth::Worth;
 use network::road::Road;
+use std::cmp::Ordering;
 
 /// What stands at a place of a row, zero past its end.
 pub fn entry<W: Worth>(row: &[W], i: usize) -> W
     ensures { W.Worth.value result ≡ row_of W.Worth.value row.now i }
 {
-    if i < row.len() { row[i] } else { W::zero() }
+    row.get(i).copied().unwrap_or(W::zero())
 }
 
 /// The reduced worth of an arc: its worth plus its tail's price less its head's. It is exact wherever the true one is
 /// within `MAX_EXACT`, whatever the sums on the way; beyond it wraps.
+// kept: rows are handed in as slices, by a rule of the project, and so no struct holds a network with its worths and prices.
 pub fn reduced<W: Worth>(roads: &[Road], worths: &[W], prices: &[W], arc: usize) -> W
     ensures exact { NearPair max_exact (reduced_of W.Worth.value roads.now worths.now prices.now arc) → W.Worth.value result ≡ reduced_of W.Worth.value roads.now worths.now prices.now arc }
     ensures wraps { W.Worth.value result ≡ wrapped_pair (reduced_of W.Worth.value roads.now worths.now prices.now arc) }
 {
-    let road = road_at(roads, arc);
+    let road = roads.get(arc).copied().unwrap_or_default();
     let tail = entry(prices, road.tail as usize);
     let head = entry(prices, road.head as usize);
     entry(worths, arc).add(tail).add(head.negate())
@@ -33,49 +35,16 @@ pub fn fits<W: Worth>(roads: &[Road], worths: &[W], prices: &[W], flow: &[u32]) 
     ensures exact { ((a : ℕ) → a < length roads.now → NearPair max_exact (reduced_of W.Worth.value roads.now worths.now prices.now a)) → Decides result (Fits ranked roads.now (row_of W.Worth.value worths.now) (row_of W.Worth.value prices.now) flow.now) }
     ensures wraps { Decides result (FitsBy ranked roads.now (λ a. wrapped_pair (reduced_of W.Worth.value roads.now worths.now prices.now a)) flow.now) }
 {
-    for i in 0..roads.len() {
-        let worth = reduced(roads, worths, prices, i);
-        if !fits_arc(roads[i], worth, chests_at(flow, i)) {
-            return false;
-        }
-    }
-    true
-}
-
-// Whether an arc's chests fit its reduced worth.
-fn fits_arc<W: Worth>(road: Road, worth: W, chests: u32) -> bool
-    ensures { Decides result (FitsArc ranked road (W.Worth.value worth) chests) }
-{
-    if is_above(worth) {
-        chests == road.least
-    } else if is_below(worth) {
-        chests == road.most
-    } else {
-        true
-    }
-}
-
-// The road of an arc; past the last one a road that carries nothing.
-fn road_at(roads: &[Road], arc: usize) -> Road
-    ensures { result ≡ road_at roads.now arc }
-{
-    if arc < roads.len() {
-        roads[arc]
-    } else {
-        Road {
-            tail: 0,
-            head: 0,
-            least: 0,
-            most: 0,
-            first: 0,
-            second: 0,
-        }
-    }
-}
-
-// The chests of an arc, none past the end of the flow.
-fn chests_at(flow: &[u32], arc: usize) -> u32
-    ensures { result ≡ slice_index flow.now arc }
-{
-    if arc < flow.len() { flow[arc] } else { 0 }
+    roads.iter().enumerate().all(
+        |(arc, road)| -> bool
+            ensures { Decides result (FitsArc ranked road.entry.now (wrapped_pair (reduced_of W.Worth.value roads.entry.now worths.entry.now prices.entry.now arc)) (slice_index flow.entry.now arc)) }
+        {
+            let chests = flow.get(arc).copied().unwrap_or(0);
+            match reduced(roads, worths, prices, arc).compare(W::zero()) {
+                Ordering::Greater => chests == road.least,
+                Ordering::Less => chests == road.most,
+                Ordering::Equal => true,
+            }
+        },
+    )
 }

@@ -1,5 +1,7 @@
 // Worths as the code adds and compares them: plain numbers and ranked pairs.
 ghost use Rattle.std.specs.Prelude.{◌≡◌, not, pos};
+ghost use Rattle.std.proofs.Common.{arith};
+ghost use Rattle.std.proofs.lemmas.Int.{ints};
 ghost use Rattle.worths.specs.Kinds.{Pair, plus_pair, minus_pair, at_most_pair};
 ghost use Rattle.worths.specs.Values.{NearPair, wrapped_pair, compared, max_exact, max_worth, max_price};
 
@@ -22,7 +24,8 @@ pub fn worth_limits() -> (i64, i64, i64)
 /// What an arc's chest is worth under one objective, or a node's price. `value` is what it means.
 ///
 /// Sums wrap rather than fail, so that no caller owes a bound: a sum of sums is right wherever its true value is in range.
-pub trait Worth: Copy {
+/// Worths are ordered as what they mean: by the first part, ties by the second.
+pub trait Worth: Copy + Ord {
     ghost value: { Self → Pair };
 
     /// Nothing.
@@ -41,15 +44,36 @@ pub trait Worth: Copy {
 
     /// By the first part, ties by the second.
     fn compare(self, other: Self) -> Ordering
-        ensures { result ≡ compared (value self) (value other) };
+        ensures { result ≡ compared (value self) (value other) }
+    {
+        self.cmp(&other)
+    }
+
+    /// Whether it is strictly above zero.
+    fn is_above(self) -> bool
+        ensures { result ≡ not (at_most_pair (value self) (pos 0, pos 0)) }
+    {
+        self.compare(Self::zero()).is_gt()
+    }
+
+    /// Whether it is strictly below zero.
+    fn is_below(self) -> bool
+        ensures { result ≡ not (at_most_pair (pos 0, pos 0) (value self)) }
+    {
+        self.compare(Self::zero()).is_lt()
+    }
+
+    ghost ordered_by_value: { (x y : Self) → Self.Ord.cmp x y ≡ compared (value x) (value y) };
 }
 
 /// A plain number, which means a pair with second part 0.
-#[derive(Clone, Copy, Debug, PartialEq, Eq)]
+#[derive(Clone, Copy, Debug, PartialEq, Eq, PartialOrd, Ord)]
 pub struct Plain(pub i64);
 
 impl Worth for Plain {
     ghost value = { λ x. (x.0, pos 0) };
+
+    ghost ordered_by_value = { λ x y. Prim.grind (arith, ints) };
 
     fn zero() -> Plain {
         Plain(0)
@@ -62,14 +86,10 @@ impl Worth for Plain {
     fn negate(self) -> Plain {
         Plain(self.0.wrapping_neg())
     }
-
-    fn compare(self, other: Plain) -> Ordering {
-        self.0.cmp(&other.0)
-    }
 }
 
 /// A pair of numbers, of which the first counts and the second breaks ties.
-#[derive(Clone, Copy, Debug, PartialEq, Eq)]
+#[derive(Clone, Copy, Debug, PartialEq, Eq, PartialOrd, Ord)]
 pub struct Ranked {
     pub first: i64,
     pub second: i64,
@@ -77,6 +97,8 @@ pub struct Ranked {
 
 impl Worth for Ranked {
     ghost value = { λ x. (x.first, x.second) };
+
+    ghost ordered_by_value = { λ x y. Prim.grind (arith, ints) };
 
     fn zero() -> Ranked {
         Ranked {
@@ -98,24 +120,4 @@ impl Worth for Ranked {
             second: self.second.wrapping_neg(),
         }
     }
-
-    fn compare(self, other: Ranked) -> Ordering {
-        self.first
-            .cmp(&other.first)
-            .then(self.second.cmp(&other.second))
-    }
-}
-
-/// Whether the worth is strictly above zero.
-pub fn is_above<W: Worth>(worth: W) -> bool
-    ensures { result ≡ not (at_most_pair (W.Worth.value worth) (pos 0, pos 0)) }
-{
-    worth.compare(W::zero()).is_gt()
-}
-
-/// Whether the worth is strictly below zero.
-pub fn is_below<W: Worth>(worth: W) -> bool
-    ensures { result ≡ not (at_most_pair (pos 0, pos 0) (W.Worth.value worth)) }
-{
-    worth.compare(W::zero()).is_lt()
 }

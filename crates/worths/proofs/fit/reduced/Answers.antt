@@ -1,15 +1,15 @@
+use Rattle.std.proofs.Common.{◌≡◌, rules}
 use Rattle.network.specs.Arcs.{road_at}
-use Rattle.worths.specs.Values.{row_of}
-use Rattle.worths.proofs.Ranges.{exact_from_wraps}
-use Rattle.worths.proofs.Rows.{reduced_wraps}
+use Rattle.worths.specs.Kinds.{plus_pair, minus_pair}
+use Rattle.worths.proofs.Ranges.{exact_from_wraps, wrapped_plus}
 use Rattle.worths.proofs.fit.reduced.Goals as goal
 
-pub returns : goal.returns
-returns g c =
+pub returns-clause-wraps : goal.returns-clause-wraps
+returns-clause-wraps g c =
     let value = g.W.Worth.value in
-    let arc = c.args.arc in
-    let price = row_of value c.args.prices.now in
-    let reads = reduced_wraps (row_of value c.args.worths.now arc) price (road_at c.args.roads.now arc) c.road_at-road.result in
-    let sums = reads _ _ _ _ _ _ c.road_at-road.ensures c.entry.ensures c.entry-tail.ensures c.entry-head.ensures in
-    let is = sums c.add.ensures.wraps c.negate.ensures.wraps c.add-2.ensures.wraps in
-    record { exact = exact_from_wraps _ _ is; wraps = is }
+    let road : c.unwrap_or_default-road.result ≡ road_at c.args.roads.now c.args.arc = search rules in
+    let once = wrapped_plus (plus_pair (value c.entry.result) (value c.entry-tail.result)) (minus_pair (value c.entry-head.result)) in
+    cc (once, c.entry.ensures, c.entry-tail.ensures, c.entry-head.ensures, c.add.ensures.wraps, c.negate.ensures.wraps, c.add-2.ensures.wraps)
+
+pub returns-clause-exact : goal.returns-clause-exact
+returns-clause-exact g c = exact_from_wraps _ _ (returns-clause-wraps g c)

@@ -1,14 +1,11 @@
-use Rattle.std.proofs.Common.{w64, SFits, rules}
-use Rattle.std.proofs.lemmas.Int.{wrapping_add_is}
+use Rattle.std.proofs.Common.{rules}
+use Rattle.std.proofs.lemmas.Int.{wraps}
 use Rattle.worths.specs.Laws.{pair_eq}
 use Rattle.worths.proofs.Ranges.{exact_from_wraps}
 use Rattle.worths.proofs.worth.RankedWorth.add.Goals as goal
 
-pub returns : goal.returns
-returns c =
-    let f : SFits w64 c.args.self.first = search rules in
-    let g : SFits w64 c.args.other.first = search rules in
-    let h : SFits w64 c.args.self.second = search rules in
-    let k : SFits w64 c.args.other.second = search rules in
-    let is = pair_eq (wrapping_add_is w64 c.args.self.first c.args.other.first f g) (wrapping_add_is w64 c.args.self.second c.args.other.second h k) in
-    record { exact = exact_from_wraps _ _ is; wraps = is }
+pub returns-clause-wraps : goal.returns-clause-wraps
+returns-clause-wraps c = pair_eq (search (rules, wraps)) (search (rules, wraps))
+
+pub returns-clause-exact : goal.returns-clause-exact
+returns-clause-exact c = exact_from_wraps _ _ (returns-clause-wraps c)
