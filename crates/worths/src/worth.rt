@@ -1,7 +1,5 @@
 // Worths as the code adds and compares them: plain numbers and ranked pairs.
 ghost use Rattle.std.specs.Prelude.{◌≡◌, not, pos};
-ghost use Rattle.std.proofs.Common.{arith};
-ghost use Rattle.std.proofs.lemmas.Int.{ints};
 ghost use Rattle.worths.specs.Kinds.{Pair, plus_pair, minus_pair, at_most_pair};
 ghost use Rattle.worths.specs.Values.{NearPair, wrapped_pair, compared, max_exact, max_worth, max_price};
 
@@ -24,8 +22,7 @@ pub fn worth_limits() -> (i64, i64, i64)
 /// What an arc's chest is worth under one objective, or a node's price. `value` is what it means.
 ///
 /// Sums wrap rather than fail, so that no caller owes a bound: a sum of sums is right wherever its true value is in range.
-/// Worths are ordered as what they mean: by the first part, ties by the second.
-pub trait Worth: Copy + Ord {
+pub trait Worth: Copy {
     ghost value: { Self → Pair };
 
     /// Nothing.
@@ -44,10 +41,7 @@ pub trait Worth: Copy + Ord {
 
     /// By the first part, ties by the second.
     fn compare(self, other: Self) -> Ordering
-        ensures { result ≡ compared (value self) (value other) }
-    {
-        self.cmp(&other)
-    }
+        ensures { result ≡ compared (value self) (value other) };
 
     /// Whether it is strictly above zero.
     fn is_above(self) -> bool
@@ -62,8 +56,6 @@ pub trait Worth: Copy + Ord {
     {
         self.compare(Self::zero()).is_lt()
     }
-
-    ghost ordered_by_value: { (x y : Self) → Self.Ord.cmp x y ≡ compared (value x) (value y) };
 }
 
 /// A plain number, which means a pair with second part 0.
@@ -72,8 +64,6 @@ pub struct Plain(pub i64);
 
 impl Worth for Plain {
     ghost value = { λ x. (x.0, pos 0) };
-
-    ghost ordered_by_value = { λ x y. Prim.grind (arith, ints) };
 
     fn zero() -> Plain {
         Plain(0)
@@ -86,6 +76,10 @@ impl Worth for Plain {
     fn negate(self) -> Plain {
         Plain(self.0.wrapping_neg())
     }
+
+    fn compare(self, other: Plain) -> Ordering {
+        self.cmp(&other)
+    }
 }
 
 /// A pair of numbers, of which the first counts and the second breaks ties.
@@ -97,8 +91,6 @@ pub struct Ranked {
 
 impl Worth for Ranked {
     ghost value = { λ x. (x.first, x.second) };
-
-    ghost ordered_by_value = { λ x y. Prim.grind (arith, ints) };
 
     fn zero() -> Ranked {
         Ranked {
@@ -119,5 +111,9 @@ impl Worth for Ranked {
             first: self.first.wrapping_neg(),
             second: self.second.wrapping_neg(),
         }
+    }
+
+    fn compare(self, other: Ranked) -> Ordering {
+        self.cmp(&other)
     }
 }
