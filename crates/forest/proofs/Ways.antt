@@ -6,6 +6,9 @@ use Rattle.std.proofs.lemmas.Int.{ints}
 use Rattle.numbers.specs.Totals.{total}
 use Rattle.numbers.proofs.Totals.{total_change}
 use Rattle.network.specs.declared.road.Road.{Road}
+use Rattle.network.specs.Roads.{other_end}
+use Rattle.network.specs.declared.road.End.{End}
+use Rattle.network.specs.declared.road.End.TheVariants.{Tail, Head}
 use Rattle.residual.specs.Steps.{start, finish, flip, slack}
 use Rattle.residual.specs.declared.step.Step.{Step}
 use Rattle.forest.specs.Forest.{Rooted, top, under, On, here, above, Linked, EndsIn, link_of, parent, ups}
@@ -207,11 +210,11 @@ pub finish_flip : (roads : List Road) (s : Step) → finish roads (flip s) ≡ s
 finish_flip roads s = grind (arith, ints)
 
 pub slack_flip : (roads : List Road) (w price : ℕ → ℤ) (s : Step) → slack roads w price (flip s) ≡ neg_ℤ (slack roads w price s)
-slack_flip roads w price s = go s.along
+slack_flip roads w price s = go s.from
   where
-    go : (b : Bool) → slack roads w price (record { arc = s.arc; along = not b }) ≡ neg_ℤ (slack roads w price (record { arc = s.arc; along = b }))
-    go true = omega (arith, ints)
-    go false = omega (arith, ints)
+    go : (f : End) → slack roads w price (record { arc = s.arc; from = other_end f }) ≡ neg_ℤ (slack roads w price (record { arc = s.arc; from = f }))
+    go Tail = omega (arith, ints)
+    go Head = omega (arith, ints)
 
 pub flip_flip : (s : Step) → flip (flip s) ≡ s
 flip_flip s = grind (arith, ints)

@@ -14,6 +14,10 @@ abbrev pub end_node : End → Road → ℕ
 end_node Tail r = r.tail
 end_node Head r = r.head
 
+abbrev pub other_end : End → End
+other_end Tail = Head
+other_end Head = Tail
+
 -- the road joins nodes of the network, and each of its numbers is within its limit
 pub record Ranged (nodes : ℕ) (r : Road) : Type 0 where
   pub tail : r.tail < nodes

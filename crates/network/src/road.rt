@@ -1,6 +1,6 @@
 // Roads.
 ghost use Rattle.std.specs.Prelude.{◌≡◌, Decides};
-ghost use Rattle.network.specs.Roads.{Passable, end_node};
+ghost use Rattle.network.specs.Roads.{Passable, end_node, other_end};
 ghost use Rattle.network.specs.Tested.{is_passable};
 
 /// A road for chests, the data of an arc: from `tail` to `head` it carries from `least` to `most` chests, each at two costs.
@@ -24,6 +24,18 @@ pub struct Road {
 pub enum End {
     Tail,
     Head,
+}
+
+impl End {
+    /// The other end.
+    pub fn other(self) -> End
+        ensures { result ≡ other_end self }
+    {
+        match self {
+            End::Tail => End::Head,
+            End::Head => End::Tail,
+        }
+    }
 }
 
 impl Road {

@@ -1,5 +1,5 @@
 -- A push over one step: what it does to bounds, to the excess at its two ends, to the flow's worth and to the room of steps.
-use Rattle.std.proofs.Common.{◌≡◌, ℕ, zero, suc, ◌+◌, ◌-◌, ◌<◌, ◌≤◌, Bool, true, false, cond, not, eqb, ◌≢◌, List, length, ℤ, pos, ◌+ℤ◌, ◌-ℤ◌, ◌*ℤ◌, neg_ℤ, sym, refl, ap, ◌∙◌, subst, arith}
+use Rattle.std.proofs.Common.{◌≡◌, ℕ, zero, suc, ◌+◌, ◌-◌, ◌<◌, ◌≤◌, Bool, true, false, cond, eqb, ◌≢◌, List, length, ℤ, pos, ◌+ℤ◌, ◌-ℤ◌, ◌*ℤ◌, neg_ℤ, sym, refl, ap, ◌∙◌, subst, arith}
 use native.Mathlib.Decide.{ℕ_discrete}
 use Rattle.std.proofs.lemmas.List.{get_or-set_same, get_or-set_other, length-set}
 use Rattle.std.proofs.lemmas.Int.{ints}
@@ -8,13 +8,17 @@ use Rattle.numbers.proofs.Products.{poly}
 use Rattle.numbers.proofs.Totals.{total_change}
 use Rattle.network.specs.Arcs.{road_at, stock_at}
 use Rattle.network.specs.Net.{Net, node_count, arc_count}
+use Rattle.network.specs.Roads.{end_node, other_end}
+use Rattle.network.specs.declared.road.End.{End}
+use Rattle.network.specs.declared.road.End.TheVariants.{Tail, Head}
+use Rattle.network.specs.declared.road.Road.{Road}
 use Rattle.worths.specs.Kinds.{plain, times, sum}
 use Rattle.worths.specs.Laws.{plain_ordered}
 use Rattle.flows.specs.Flows.{Flow, on, outflow, inflow}
 use Rattle.flows.specs.Prices.{worth_of}
 use Rattle.flows.proofs.Costs.{times_product}
 use Rattle.flows.proofs.Sums as S
-use Rattle.residual.specs.Steps.{start, finish, flip, room, pushed, step_worth, Bounded, excess, at, Moved}
+use Rattle.residual.specs.Steps.{along, start, finish, flip, room, pushed, step_worth, Bounded, excess, at, Moved}
 use Rattle.residual.specs.declared.step.Step.{Step}
 
 -- ---- flows and excess
@@ -70,7 +74,7 @@ module _ (n : Net) (x : List ℕ) (s : Step) (d : ℕ) (inside : s.arc < arc_cou
 
   -- what the arc then carries
   abbrev after : ℕ
-  after = cond s.along (on x s.arc + d) (on x s.arc - d)
+  after = cond (along s.from) (on x s.arc + d) (on x s.arc - d)
 
   after_here : on (pushed x s d) s.arc ≡ after
   after_here = get_or-set_same x s.arc after 0 short
@@ -94,13 +98,13 @@ module _ (n : Net) (x : List ℕ) (s : Step) (d : ℕ) (inside : s.arc < arc_cou
       low : (a : ℕ) → a < arc_count n → Dec (a ≡ s.arc) → (road_at n.roads a).least ≤ on (pushed x s d) a
       low a k (yes e) =
           subst (λ (b : ℕ). (road_at n.roads b).least ≤ on (pushed x s d) b) (sym e)
-          (subst (λ (y : ℕ). (road_at n.roads s.arc).least ≤ y) (sym after_here) (at_low s.along (on x s.arc) (road_at n.roads s.arc).least (road_at n.roads s.arc).most (B.low s.arc inside) wide))
+          (subst (λ (y : ℕ). (road_at n.roads s.arc).least ≤ y) (sym after_here) (at_low (along s.from) (on x s.arc) (road_at n.roads s.arc).least (road_at n.roads s.arc).most (B.low s.arc inside) wide))
       low a k (no e) = subst (λ (y : ℕ). (road_at n.roads a).least ≤ y) (sym (after_else a e)) (B.low a k)
 
       high : (a : ℕ) → a < arc_count n → Dec (a ≡ s.arc) → on (pushed x s d) a ≤ (road_at n.roads a).most
       high a k (yes e) =
           subst (λ (b : ℕ). on (pushed x s d) b ≤ (road_at n.roads b).most) (sym e)
-          (subst (λ (y : ℕ). y ≤ (road_at n.roads s.arc).most) (sym after_here) (at_high s.along (on x s.arc) (road_at n.roads s.arc).least (road_at n.roads s.arc).most (B.high s.arc inside) wide))
+          (subst (λ (y : ℕ). y ≤ (road_at n.roads s.arc).most) (sym after_here) (at_high (along s.from) (on x s.arc) (road_at n.roads s.arc).least (road_at n.roads s.arc).most (B.high s.arc inside) wide))
       high a k (no e) = subst (λ (y : ℕ). y ≤ (road_at n.roads a).most) (sym (after_else a e)) (B.high a k)
 
   -- at one end of the arcs
@@ -112,7 +116,7 @@ module _ (n : Net) (x : List ℕ) (s : Step) (d : ℕ) (inside : s.arc < arc_cou
 
   push_excess : (v : ℕ) → excess n (pushed x s d) v ≡ (excess n x v -ℤ at (start n.roads s) v d) +ℤ at (finish n.roads s) v d
   push_excess v =
-      go s.along (road_at n.roads s.arc).tail (road_at n.roads s.arc).head (on x s.arc) (road_at n.roads s.arc).least (road_at n.roads s.arc).most (stock_at n.stocks v)
+      go s.from (road_at n.roads s.arc) (on x s.arc) (stock_at n.stocks v)
       (outflow n.roads (on (pushed x s d)) v) (outflow n.roads (on x) v) (inflow n.roads (on (pushed x s d)) v) (inflow n.roads (on x) v) (B.low s.arc inside) wide
       (end_change (λ a. (road_at n.roads a).tail) v) (end_change (λ a. (road_at n.roads a).head) v)
     where
@@ -128,11 +132,11 @@ module _ (n : Net) (x : List ℕ) (s : Step) (d : ℕ) (inside : s.arc < arc_cou
       by false false true y l m e o o' i i' p q f g = omega (arith, ints)
       by false false false y l m e o o' i i' p q f g = omega (arith, ints)
 
-      go : (b : Bool) (t h : ℕ) (y l m : ℕ) (e : ℤ) (o o' i i' : ℕ) → l ≤ y → d ≤ cond b (m - y) (y - l)
-          → o + cond (eqb t v) y 0 ≡ o' + cond (eqb t v) (cond b (y + d) (y - d)) 0 → i + cond (eqb h v) y 0 ≡ i' + cond (eqb h v) (cond b (y + d) (y - d)) 0
-          → e -ℤ (pos o -ℤ pos i) ≡ ((e -ℤ (pos o' -ℤ pos i')) -ℤ pos (cond (eqb (cond b t h) v) d 0)) +ℤ pos (cond (eqb (cond b h t) v) d 0)
-      go true t h y l m e o o' i i' p q f g = by true (eqb t v) (eqb h v) y l m e o o' i i' p q f g
-      go false t h y l m e o o' i i' p q f g = by false (eqb t v) (eqb h v) y l m e o o' i i' p q f g
+      go : (f : End) (r : Road) (y : ℕ) (e : ℤ) (o o' i i' : ℕ) → r.least ≤ y → d ≤ cond (along f) (r.most - y) (y - r.least)
+          → o + cond (eqb r.tail v) y 0 ≡ o' + cond (eqb r.tail v) (cond (along f) (y + d) (y - d)) 0 → i + cond (eqb r.head v) y 0 ≡ i' + cond (eqb r.head v) (cond (along f) (y + d) (y - d)) 0
+          → e -ℤ (pos o -ℤ pos i) ≡ ((e -ℤ (pos o' -ℤ pos i')) -ℤ pos (cond (eqb (end_node f r) v) d 0)) +ℤ pos (cond (eqb (end_node (other_end f) r) v) d 0)
+      go Tail r y e o o' i i' p q f g = by true (eqb r.tail v) (eqb r.head v) y r.least r.most e o o' i i' p q f g
+      go Head r y e o o' i i' p q f g = by false (eqb r.tail v) (eqb r.head v) y r.least r.most e o o' i i' p q f g
 
   pub push_moved : Moved n x (pushed x s d) (start n.roads s) (finish n.roads s) d
   push_moved = record { bounded = push_bounded; moved = λ v h. push_excess v }
@@ -140,7 +144,7 @@ module _ (n : Net) (x : List ℕ) (s : Step) (d : ℕ) (inside : s.arc < arc_cou
   -- what the row is worth, in one part of the worths
   pub push_worth : (w : ℕ → ℤ) → worth_of plain n w (pushed x s d) ≡ worth_of plain n w x +ℤ pos d *ℤ step_worth w s
   push_worth w =
-      fin s.along (on x s.arc) (road_at n.roads s.arc).least (road_at n.roads s.arc).most (w s.arc) (worth_of plain n w (pushed x s d)) (worth_of plain n w x) (B.low s.arc inside) wide
+      fin (along s.from) (on x s.arc) (road_at n.roads s.arc).least (road_at n.roads s.arc).most (w s.arc) (worth_of plain n w (pushed x s d)) (worth_of plain n w x) (B.low s.arc inside) wide
       (ap (λ z. worth_of plain n w (pushed x s d) +ℤ z) (sym (times_product (on x s.arc) (w s.arc)))
       ∙ sum_change (arc_count n) (λ a. times plain (on (pushed x s d) a) (w a)) (λ a. times plain (on x a) (w a)) s.arc inside (λ j a e. ap (λ (y : ℕ). times plain y (w j)) (after_else j e))
       ∙ ap (λ z. worth_of plain n w x +ℤ z) (ap (λ (y : ℕ). times plain y (w s.arc)) after_here ∙ times_product after (w s.arc)))
@@ -166,23 +170,25 @@ module _ (n : Net) (x : List ℕ) (s : Step) (d : ℕ) (inside : s.arc < arc_cou
 
   -- the room of other arcs stays; on this one it falls this way and rises the other
   pub room_else : (l : Step) → l.arc ≢ s.arc → room n.roads (pushed x s d) l ≡ room n.roads x l
-  room_else l e = ap (λ (y : ℕ). cond l.along ((road_at n.roads l.arc).most - y) (y - (road_at n.roads l.arc).least)) (after_else l.arc e)
+  room_else l e = ap (λ (y : ℕ). cond (along l.from) ((road_at n.roads l.arc).most - y) (y - (road_at n.roads l.arc).least)) (after_else l.arc e)
 
   pub room_this : room n.roads (pushed x s d) s + d ≡ room n.roads x s
   room_this =
-      ap (λ (y : ℕ). cond s.along ((road_at n.roads s.arc).most - y) (y - (road_at n.roads s.arc).least) + d) after_here
-      ∙ go s.along (on x s.arc) (road_at n.roads s.arc).least (road_at n.roads s.arc).most (B.low s.arc inside) wide
+      ap (λ (y : ℕ). cond (along s.from) ((road_at n.roads s.arc).most - y) (y - (road_at n.roads s.arc).least) + d) after_here
+      ∙ go (along s.from) (on x s.arc) (road_at n.roads s.arc).least (road_at n.roads s.arc).most (B.low s.arc inside) wide
     where
       go : (b : Bool) (y l m : ℕ) → l ≤ y → d ≤ cond b (m - y) (y - l) → cond b (m - cond b (y + d) (y - d)) (cond b (y + d) (y - d) - l) + d ≡ cond b (m - y) (y - l)
       go b y l m p q = grind (arith, ints)
 
   pub room_back : room n.roads (pushed x s d) (flip s) ≡ room n.roads x (flip s) + d
   room_back =
-      ap (λ (y : ℕ). cond (not s.along) ((road_at n.roads s.arc).most - y) (y - (road_at n.roads s.arc).least)) after_here
-      ∙ go s.along (on x s.arc) (road_at n.roads s.arc).least (road_at n.roads s.arc).most (B.low s.arc inside) (B.high s.arc inside) wide
+      ap (λ (y : ℕ). cond (along (other_end s.from)) ((road_at n.roads s.arc).most - y) (y - (road_at n.roads s.arc).least)) after_here
+      ∙ go s.from (on x s.arc) (road_at n.roads s.arc).least (road_at n.roads s.arc).most (B.low s.arc inside) (B.high s.arc inside) wide
     where
-      go : (b : Bool) (y l m : ℕ) → l ≤ y → y ≤ m → d ≤ cond b (m - y) (y - l) → cond (not b) (m - cond b (y + d) (y - d)) (cond b (y + d) (y - d) - l) ≡ cond (not b) (m - y) (y - l) + d
-      go b y l m p r q = grind (arith, ints)
+      go : (f : End) (y l m : ℕ) → l ≤ y → y ≤ m → d ≤ cond (along f) (m - y) (y - l)
+          → cond (along (other_end f)) (m - cond (along f) (y + d) (y - d)) (cond (along f) (y + d) (y - d) - l) ≡ cond (along (other_end f)) (m - y) (y - l) + d
+      go Tail y l m p r q = omega arith
+      go Head y l m p r q = omega arith
 
 -- ---- one move after another
 

@@ -1,32 +1,40 @@
--- Steps of the residual graph: over an arc, along it or back.
-use Rattle.std.specs.Prelude.{◌≡◌, ℕ, ◌+◌, ◌-◌, ◌<◌, ◌≤◌, cond, not, List, length, ℤ, pos, ◌+ℤ◌, ◌-ℤ◌, neg_ℤ, ◌==◌, slice_set}
+-- Steps of the residual graph: over an arc, from either end of it to the other.
+use Rattle.std.specs.Prelude.{◌≡◌, ℕ, ◌+◌, ◌-◌, ◌<◌, ◌≤◌, Bool, true, false, cond, List, length, ℤ, pos, ◌+ℤ◌, ◌-ℤ◌, neg_ℤ, ◌==◌, slice_set}
 use Rattle.network.specs.Arcs.{road_at, stock_at}
 use Rattle.network.specs.Net.{Net, node_count}
+use Rattle.network.specs.Roads.{end_node, other_end}
+use Rattle.network.specs.declared.road.End.{End}
+use Rattle.network.specs.declared.road.End.TheVariants.{Tail, Head}
 use Rattle.network.specs.declared.road.Road.{Road}
 use Rattle.flows.specs.Flows.{on, outflow, inflow}
 use Rattle.residual.specs.declared.step.Step.{Step}
 
+-- a step from the tail goes along the arc, one from the head goes back
+abbrev pub along : End → Bool
+along Tail = true
+along Head = false
+
 abbrev pub start : List Road → Step → ℕ
-start roads s = cond s.along (road_at roads s.arc).tail (road_at roads s.arc).head
+start roads s = end_node s.from (road_at roads s.arc)
 
 abbrev pub finish : List Road → Step → ℕ
-finish roads s = cond s.along (road_at roads s.arc).head (road_at roads s.arc).tail
+finish roads s = end_node (other_end s.from) (road_at roads s.arc)
 
 -- the same arc the other way
 abbrev pub flip : Step → Step
-flip s = record { arc = s.arc; along = not s.along }
+flip s = record { arc = s.arc; from = other_end s.from }
 
 -- how many more chests can go this way
 abbrev pub room : List Road → List ℕ → Step → ℕ
-room roads x s = cond s.along ((road_at roads s.arc).most - on x s.arc) (on x s.arc - (road_at roads s.arc).least)
+room roads x s = cond (along s.from) ((road_at roads s.arc).most - on x s.arc) (on x s.arc - (road_at roads s.arc).least)
 
 -- d chests more go this way
 abbrev pub pushed : List ℕ → Step → ℕ → List ℕ
-pushed x s d = slice_set x s.arc (cond s.along (on x s.arc + d) (on x s.arc - d))
+pushed x s d = slice_set x s.arc (cond (along s.from) (on x s.arc + d) (on x s.arc - d))
 
 -- what a chest this way is worth, in one part of the worths, and so reduced by prices
 abbrev pub step_worth : (ℕ → ℤ) → Step → ℤ
-step_worth w s = cond s.along (w s.arc) (neg_ℤ (w s.arc))
+step_worth w s = cond (along s.from) (w s.arc) (neg_ℤ (w s.arc))
 
 abbrev pub slack : List Road → (ℕ → ℤ) → (ℕ → ℤ) → Step → ℤ
 slack roads w price s = (step_worth w s +ℤ price (start roads s)) -ℤ price (finish roads s)

@@ -5,12 +5,11 @@ ghost use Rattle.residual.specs.Steps.{start, finish, flip, room, pushed, Bounde
 
 use network::road::{End, Road};
 
-/// A step of the residual graph: over an arc, from tail to head (`along`) or back.
-// kept: which way is a yes or no with a name, turned by `!`; an enum would want a match for each turn, and says no more.
+/// A step of the residual graph: over an arc, from this end to the other.
 #[derive(Clone, Copy, Debug, PartialEq, Eq)]
 pub struct Step {
     pub arc: u32,
-    pub along: bool,
+    pub from: End,
 }
 
 impl Step {
@@ -25,8 +24,7 @@ impl Step {
     pub fn start(self, roads: &[Road]) -> usize
         ensures { result ≡ start roads.now self }
     {
-        let end = if self.along { End::Tail } else { End::Head };
-        self.road(roads).end_node(end) as usize
+        self.road(roads).end_node(self.from) as usize
     }
 
     /// The node that it leads to.
@@ -41,7 +39,7 @@ impl Step {
         ensures { result ≡ flip self }
     {
         Step {
-            along: !self.along,
+            from: self.from.other(),
             ..self
         }
     }
@@ -53,10 +51,9 @@ impl Step {
     {
         let road = self.road(roads);
         let chests = flow.get(self.arc as usize).copied().unwrap_or(0);
-        if self.along {
-            road.most - chests
-        } else {
-            chests - road.least
+        match self.from {
+            End::Tail => road.most - chests,
+            End::Head => chests - road.least,
         }
     }
 
@@ -69,10 +66,9 @@ impl Step {
     {
         let Road { least, most, .. } = roads[self.arc as usize];
         let carried = &mut flow[self.arc as usize];
-        if self.along {
-            *carried += chests;
-        } else {
-            *carried -= chests;
+        match self.from {
+            End::Tail => *carried += chests,
+            End::Head => *carried -= chests,
         }
         prove!((least..=most).contains(carried));
     }
