@@ -1,17 +1,12 @@
 // Reading a line item by item.
 ghost use Rattle.std.specs.Prelude.{◌≡◌, ℕ, ◌^◌, ◌<◌, [], ◌∷◌, pos, ◌≤ℤ◌, IfOk};
-ghost use Rattle.forms.specs.Form.{pair, cost as rate};
+ghost use Rattle.forms.specs.Form.{pair as twice, cost as rate};
 ghost use Rattle.forms.specs.Scan.{scan, byte as mark, num, Reads, by, none, one, both, natural as whole, naturals as wholes};
 
 use crate::rest::Cursor;
 use lines::number::{Range, number_at};
 use network::limits::MAX_COST;
 use network::refusal::Refusal;
-
-const COSTS: Range = Range {
-    low: -(MAX_COST as i32),
-    high: MAX_COST as i32,
-};
 
 impl<'a> Cursor<'a> {
     /// Takes this byte.
@@ -51,36 +46,34 @@ impl<'a> Cursor<'a> {
         Ok(value as u32)
     }
 
-    /// Takes a cost.
-    pub fn cost(&mut self) -> Result<i32, Refusal>
-        ensures { Reads (rate ∷ []) self.old.bytes.now self.old.place (by one result) self.new.bytes.now self.new.place }
+    /// Takes `(a b)`, two numbers of the range.
+    pub fn pair(&mut self, range: Range) -> Result<(i32, i32), Refusal>
+        ensures reads { Reads (twice (num range.low range.high)) self.old.bytes.now self.old.place (by both result) self.new.bytes.now self.new.place }
+        ensures within { IfOk result (λ v. (range.low ≤ℤ v.0) × (v.0 ≤ℤ range.high) × (range.low ≤ℤ v.1) × (v.1 ≤ℤ range.high)) }
     {
-        self.number(COSTS)
+        self.byte(b'(')?;
+        let a = self.number(range)?;
+        self.byte(b' ')?;
+        let b = self.number(range)?;
+        self.byte(b')')?;
+        Ok((a, b))
     }
 
     /// Takes `(a b)`, two numbers from 0 to `high`.
     pub fn naturals(&mut self, high: u32) -> Result<(u32, u32), Refusal>
         requires { high < 2 ^ 31 }
-        ensures { Reads (pair (num (pos 0) (pos high))) self.old.bytes.now self.old.place (by wholes result) self.new.bytes.now self.new.place }
+        ensures { Reads (twice (num (pos 0) (pos high))) self.old.bytes.now self.old.place (by wholes result) self.new.bytes.now self.new.place }
     {
-        self.byte(b'(')?;
-        let a = self.natural(0, high)?;
-        self.byte(b' ')?;
-        let b = self.natural(0, high)?;
-        self.byte(b')')?;
-        Ok((a, b))
+        let high = high as i32;
+        let (a, b) = self.pair(Range { low: 0, high })?;
+        Ok((a as u32, b as u32))
     }
 
     /// Takes `(c d)`, two costs.
     pub fn costs(&mut self) -> Result<(i32, i32), Refusal>
-        ensures { Reads (pair rate) self.old.bytes.now self.old.place (by both result) self.new.bytes.now self.new.place }
+        ensures { Reads (twice rate) self.old.bytes.now self.old.place (by both result) self.new.bytes.now self.new.place }
     {
-        self.byte(b'(')?;
-        let c = self.cost()?;
-        self.byte(b' ')?;
-        let d = self.cost()?;
-        self.byte(b')')?;
-        Ok((c, d))
+        self.pair(Range::around(MAX_COST))
     }
 
     /// Nothing is left.

@@ -7,7 +7,8 @@ ghost use Rattle.text.specs.Refused.{open_words, Begun};
 ghost use Rattle.text.specs.Drafts.{Holds, StockTook, RoadTook, LineTook, LinesTook};
 
 use crate::draft::Draft;
-use forms::form::{arc, passable, stock};
+use forms::form::{arc, stock};
+use forms::rest::Cursor;
 use lines::line::line;
 use lines::word::{Word, furthest, known};
 use network::limits::{MAX_ARCS, MAX_NODES};
@@ -113,7 +114,7 @@ impl Draft {
         requires { start + length bytes.now < 2 ^ 63 }
         ensures { StockTook self.old bytes.now start place self.new result }
     {
-        let (node, amount) = stock(bytes, start, self.nodes)?;
+        let (node, amount) = stock(Cursor { bytes, place: start }, self.nodes)?;
         let i = node as usize;
         if self.named[i] {
             return Err(Refusal::NamedTwice(place));
@@ -129,8 +130,8 @@ impl Draft {
         requires room { self.old.count < self.old.arcs }
         ensures { RoadTook self.old bytes.now start place self.new result }
     {
-        let road = arc(bytes, start, self.nodes)?;
-        if !passable(road) {
+        let road = arc(Cursor { bytes, place: start }, self.nodes)?;
+        if !road.is_passable() {
             return Err(Refusal::Impassable(place));
         }
         self.roads[self.count] = road;

@@ -9,6 +9,7 @@ ghost use Rattle.text.specs.Reader.{Answered, FirstRead};
 use crate::draft::Draft;
 use crate::sizes::Sizes;
 use forms::form::net;
+use forms::rest::Cursor;
 use lines::line::line;
 use lines::word::{Word, furthest, known};
 use network::limits::MAX_TEXT;
@@ -56,7 +57,10 @@ fn first_known(form: &[u8], word: Word, rest: &[u8]) -> Result<(u32, u32), Refus
     ensures { FirstRead form.now result }
 {
     match word {
-        Word::Net => net(rest, form.len() - rest.len()),
+        Word::Net => net(Cursor {
+            bytes: rest,
+            place: form.len() - rest.len(),
+        }),
         Word::Stock | Word::Arc => Err(no_net(form)),
     }
 }

@@ -13,18 +13,25 @@ returns-in_err-byte c = line_fault stock_numbers _ c.from_residual-in_err-byte.r
     (fails c.in_ok-node.ensures c.in_err-byte.ensures)
 
 pub returns-in_err-amount : goal.returns-in_err-amount
-returns-in_err-amount c = line_fault stock_numbers _ c.from_residual-in_err-amount.result c.from_residual-in_err-amount.ensures.1
-    (fails (then c.in_ok-node.ensures c.in_ok-byte.ensures) c.in_err-amount.ensures.reads)
+returns-in_err-amount c =
+    let read = rw (c.around.ensures.low, c.around.ensures.high) at c.in_err-amount.ensures.reads in
+    line_fault stock_numbers _ c.from_residual-in_err-amount.result c.from_residual-in_err-amount.ensures.1
+    (fails (then c.in_ok-node.ensures c.in_ok-byte.ensures) read)
 
 pub returns-in_err-byte-2 : goal.returns-in_err-byte-2
-returns-in_err-byte-2 c = line_fault stock_numbers _ c.from_residual-in_err-byte-2.result c.from_residual-in_err-byte-2.ensures.1
-    (fails (then (then c.in_ok-node.ensures c.in_ok-byte.ensures) c.in_ok-amount.ensures.reads) c.in_err-byte-2.ensures)
+returns-in_err-byte-2 c =
+    let read = rw (c.around.ensures.low, c.around.ensures.high) at c.in_ok-amount.ensures.reads in
+    line_fault stock_numbers _ c.from_residual-in_err-byte-2.result c.from_residual-in_err-byte-2.ensures.1
+    (fails (then (then c.in_ok-node.ensures c.in_ok-byte.ensures) read) c.in_err-byte-2.ensures)
 
 pub returns-in_err-end : goal.returns-in_err-end
-returns-in_err-end c = line_more stock_numbers c.from_residual-in_err-end.result c.from_residual-in_err-end.ensures.1
-    (then (then (then c.in_ok-node.ensures c.in_ok-byte.ensures) c.in_ok-amount.ensures.reads) c.in_ok-byte-2.ensures) c.in_err-end.ensures
+returns-in_err-end c =
+    let read = rw (c.around.ensures.low, c.around.ensures.high) at c.in_ok-amount.ensures.reads in
+    line_more stock_numbers c.from_residual-in_err-end.result c.from_residual-in_err-end.ensures.1
+    (then (then (then c.in_ok-node.ensures c.in_ok-byte.ensures) read) c.in_ok-byte-2.ensures) c.in_err-end.ensures
 
 pub returns : goal.returns
 returns c =
+    let read = rw (c.around.ensures.low, c.around.ensures.high) at c.in_ok-amount.ensures.reads in
     let f0 : SFits w32 c.in_ok-amount.amount = search rules in
-    simp to_z-of_z (line_done (then (then (then c.in_ok-node.ensures c.in_ok-byte.ensures) c.in_ok-amount.ensures.reads) c.in_ok-byte-2.ensures) c.in_ok-end.ensures)
+    simp to_z-of_z (line_done (then (then (then c.in_ok-node.ensures c.in_ok-byte.ensures) read) c.in_ok-byte-2.ensures) c.in_ok-end.ensures)
