@@ -1,14 +1,33 @@
 // Reading a line item by item.
-ghost use Rattle.std.specs.Prelude.{◌≡◌, ℕ, ◌^◌, ◌<◌, [], ◌∷◌, pos, ◌≤ℤ◌, IfOk};
+ghost use Rattle.std.specs.Prelude.{◌≡◌, ℕ, ◌+◌, ◌^◌, ◌<◌, List, [], ◌∷◌, ◌++◌, length, pos, ◌≤ℤ◌, IfOk, MatchOption, ◌≢◌};
+ghost use Rattle.network.specs.Refusals.{SaysAt};
+ghost use Rattle.lines.specs.Word.{spelt, furthest as reach};
 ghost use Rattle.forms.specs.Form.{pair as twice, cost as rate};
 ghost use Rattle.forms.specs.Scan.{scan, byte as mark, num, Reads, by, none, one, both, natural as whole, naturals as wholes};
 
 use crate::rest::Cursor;
 use lines::number::{Range, number_at};
+use lines::word::{Word, furthest, known};
 use network::limits::MAX_COST;
 use network::refusal::Refusal;
 
 impl<'a> Cursor<'a> {
+    /// The word that begins a line, and what follows bracket, word and space.
+    pub fn word(&self) -> Option<(Word, Cursor<'a>)>
+        ensures { MatchOption result ((w : Word) (rest : List ℕ) → self.now.bytes.now ≢ spelt w ++ rest) (λ k. (self.now.bytes.now ≡ spelt k.0 ++ k.1.bytes.now) × (k.1.place ≡ self.now.place + length (spelt k.0))) }
+    {
+        let (word, bytes) = known(self.bytes)?;
+        let place = self.place + (self.bytes.len() - bytes.len());
+        Some((word, Cursor { bytes, place }))
+    }
+
+    /// The refusal of a line that begins with none of the words: at the first byte that fits none of them.
+    pub fn no_word(&self, words: &[Word]) -> Refusal
+        ensures { SaysAt result 10 (self.now.place + reach words.now self.now.bytes.now) }
+    {
+        Refusal::Form(self.place + furthest(self.bytes, words))
+    }
+
     /// Takes this byte.
     pub fn byte(&mut self, wanted: u8) -> Result<(), Refusal>
         ensures { Reads (mark wanted ∷ []) self.old.bytes.now self.old.place (by none result) self.new.bytes.now self.new.place }

@@ -1,5 +1,5 @@
 -- The first line.
-use Rattle.std.proofs.Common.{◌≡◌, ℕ, ◌+◌, ◌-◌, List, [], ◌∷◌, ◌++◌, length, take, Ok, Err, Result, sym, ap, ◌∙◌, subst, append-nil, zero-add, arith}
+use Rattle.std.proofs.Common.{◌≡◌, ℕ, ◌+◌, ◌-◌, List, [], ◌∷◌, ◌++◌, length, take, Ok, Err, Result, sym, refl, ap, ◌∙◌, subst, append-nil, zero-add, arith}
 use Rattle.network.specs.Refusals.{SaysAt}
 use Rattle.network.specs.declared.refusal.Refusal.{Refusal}
 use Rattle.forms.specs.Form.{net_items}
@@ -7,7 +7,7 @@ use Rattle.lines.specs.Line.{LineAt}
 use Rattle.forms.specs.Scan.{Scanned, by, naturals}
 use Rattle.lines.specs.Word.{spelt, furthest}
 use Rattle.lines.specs.declared.word.Word.{Word}
-use Rattle.lines.specs.declared.word.Word.TheVariants.{Net}
+use Rattle.lines.specs.declared.word.Word.TheVariants.{Net, Stock, Arc}
 use Rattle.text.specs.Consignment.{net_form, ended, Sized}
 use Rattle.text.specs.Refused.{Begun, Faulty, FirstFault, no_word, bad_net}
 use Rattle.text.specs.Reader.{FirstRead}
@@ -27,8 +27,13 @@ start_is form rest e = omega (arith, after_word Net form rest 0 e)
 pub no_first_word : (form : List ℕ) (e : Refusal) → BeginsNot Net form → SaysAt e 10 (furthest (Net ∷ []) form) → FirstFault form e
 no_first_word form e none says = no_word (record { none = (none, tt); says = subst (λ k. SaysAt e 10 k) (sym (zero-add (furthest (Net ∷ []) form))) says })
 
-pub other_first : (form : List ℕ) (w : Word) (rest : List ℕ) (e : Refusal) → form ≡ spelt w ++ rest → (mark w ≡ mark Net → ⊥) → SaysAt e 10 (furthest (Net ∷ []) form) → FirstFault form e
-other_first form w rest e f ne says = no_first_word form e (λ more g. ne (other_word w Net form rest more f g)) says
+net_marked : (w : Word) → mark w ≡ mark Net → w ≡ Net
+net_marked Net e = refl
+net_marked Stock e = absurd (omega arith)
+net_marked Arc e = absurd (omega arith)
+
+pub other_first : (form : List ℕ) (w : Word) (rest : List ℕ) (e : Refusal) → form ≡ spelt w ++ rest → (w ≡ Net → ⊥) → SaysAt e 10 (furthest (Net ∷ []) form) → FirstFault form e
+other_first form w rest e f ne says = no_first_word form e (λ more g. ne (net_marked w (other_word w Net form rest more f g))) says
 
 pub begun_first : (text form : List ℕ) (n m : ℕ) → LineAt text 0 form → form ≡ net_form n m → Sized n m → Begun text n m [] [] (length form + 1)
 begun_first text form n m at e s = record {

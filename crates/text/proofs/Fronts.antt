@@ -108,20 +108,20 @@ pub line_stops : (text : List ℕ) (d₀ d : Draft) (place : ℕ) (form : List �
 line_stops text d₀ d place form e at fault h =
     resized text d₀ d e h.sizes (bad_line h.entries h.roads place h.begun form at (fault h.entries h.roads h.holds))
 
-pub end_stops : (text : List ℕ) (d₀ d : Draft) (place : ℕ) (e : Refusal) → NoLine text place → (place < length text) ⊎ (d.count < d.arcs) → SaysAt e 10 (length text)
+pub end_stops : (text : List ℕ) (d₀ d : Draft) (place : ℕ) (e : Refusal) → NoLine text place → (place < length text) ⊎ (length d.roads.items < d.arcs) → SaysAt e 10 (length text)
     → Reading text d₀ d place → Stopped text d₀.nodes d₀.arcs e
 end_stops text d₀ d place e none (inl l) says h = resized text d₀ d e h.sizes (no_end h.entries h.roads place h.begun none (inl l) says)
 end_stops text d₀ d place e none (inr l) says h =
-    resized text d₀ d e h.sizes (no_end h.entries h.roads place h.begun none (inr (subst (λ k. k < d.arcs) h.holds.count_is l)) says)
+    resized text d₀ d e h.sizes (no_end h.entries h.roads place h.begun none (inr (subst (λ k. k < d.arcs) (ap length h.holds.roads_are) l)) says)
 
 pub past_end : (text : List ℕ) (place : ℕ) → length text ≤ place → NoLine text place
 past_end text place l k from to e = omega arith
 
-pub completed : (text : List ℕ) (d₀ d : Draft) (place : ℕ) → length text ≤ place → d.arcs ≤ d.count → Reading text d₀ d place → Completed text d
+pub completed : (text : List ℕ) (d₀ d : Draft) (place : ℕ) → length text ≤ place → d.arcs ≤ length d.roads.items → Reading text d₀ d place → Completed text d
 completed text d₀ d place l full h =
     let in_text = h.begun.inside in
     let whole : place ≡ length text = omega arith in
-    let count = h.holds.count_is in
+    let count = ap length h.holds.roads_are in
     let few = h.begun.few in
     record {
       entries = h.entries;

@@ -1,5 +1,5 @@
 -- What a draft holds of a consignment that is being read.
-use Rattle.std.specs.Prelude.{◌≡◌, ℕ, ◌+◌, ◌<◌, true, false, ◌⊎◌, List, [], ◌∷◌, ◌++◌, length, take, ℤ, pos, Ok, Err, Result, slice_index_or, slice_set}
+use Rattle.std.specs.Prelude.{◌≡◌, ℕ, ◌<◌, true, false, ◌⊎◌, List, [], ◌∷◌, ◌++◌, length, ℤ, pos, Option, Some, None, Ok, Err, Result, is_some, unwrap_or, slice_index_or, slice_set}
 use Rattle.network.specs.Limits.{max_nodes}
 use Rattle.network.specs.Refusals.{SaysAt}
 use Rattle.network.specs.Roads.{Ranged, Passable}
@@ -12,12 +12,15 @@ use Rattle.text.specs.Consignment.{stock_form, arc_form, Stocked, named, stock_o
 use Rattle.lines.specs.Line.{LineAt, NoLine}
 use Rattle.text.specs.Refused.{LineFault, Begun}
 
+-- the stock that a draft says a node has: 0 where no line names the node
+abbrev pub stock_said : Option ℤ → ℤ
+stock_said said = unwrap_or said (pos 0)
+
 -- the draft holds these stocks and roads
 pub record Holds (d : Draft) (entries : List (ℕ × ℤ)) (roads : List Road) : Type 0 where
-  pub stock : (i : ℕ) → i < max_nodes → slice_index_or d.stocks i (pos 0) ≡ stock_of entries i
-  pub marks : (i : ℕ) → i < max_nodes → slice_index_or d.named i false ≡ named entries i
-  pub roads_are : take d.count d.roads ≡ roads
-  pub count_is : d.count ≡ length roads
+  pub stock : (i : ℕ) → i < max_nodes → stock_said (slice_index_or d.stocks i None) ≡ stock_of entries i
+  pub marks : (i : ℕ) → i < max_nodes → is_some (slice_index_or d.stocks i None) ≡ named entries i
+  pub roads_are : d.roads.items ≡ roads
 
 -- the same sizes
 pub record SameSizes (d d' : Draft) : Type 0 where
@@ -26,27 +29,23 @@ pub record SameSizes (d d' : Draft) : Type 0 where
 
 -- one stock more
 pub record StockPut (d : Draft) (s : ℕ × ℤ) (d' : Draft) : Type 0 where
-  pub stocks : d'.stocks ≡ slice_set d.stocks s.0 s.1
-  pub marks : d'.named ≡ slice_set d.named s.0 true
-  pub roads : d'.roads ≡ d.roads
-  pub count : d'.count ≡ d.count
+  pub stocks : d'.stocks ≡ slice_set d.stocks s.0 (Some s.1)
+  pub roads : d'.roads.items ≡ d.roads.items
   pub sizes : SameSizes d d'
 
 -- one road more
 pub record RoadPut (d : Draft) (r : Road) (d' : Draft) : Type 0 where
   pub stocks : d'.stocks ≡ d.stocks
-  pub marks : d'.named ≡ d.named
-  pub roads : d'.roads ≡ slice_set d.roads d.count r
-  pub count : d'.count ≡ d.count + 1
+  pub roads : d'.roads.items ≡ d.roads.items ++ (r ∷ [])
   pub sizes : SameSizes d d'
 
 -- what became of the bytes of a stock at `start`, in the line at `place`
 abbrev pub StockTook : Draft → List ℕ → ℕ → ℕ → Draft → Result (Unit {0}) Refusal → Type 0
 StockTook d bs start place d' (Ok u) =
-    (s : ℕ × ℤ) × Scanned (stock_items d.nodes) bs start (Ok (stock_numbers s)) × (s.0 < d.nodes) × (slice_index_or d.named s.0 false ≡ false) × StockPut d s d'
+    (s : ℕ × ℤ) × Scanned (stock_items d.nodes) bs start (Ok (stock_numbers s)) × (s.0 < d.nodes) × (is_some (slice_index_or d.stocks s.0 None) ≡ false) × StockPut d s d'
 StockTook d bs start place d' (Err e) =
     Scanned (stock_items d.nodes) bs start (Err e)
-    ⊎ ((s : ℕ × ℤ) × Scanned (stock_items d.nodes) bs start (Ok (stock_numbers s)) × (s.0 < d.nodes) × (slice_index_or d.named s.0 false ≡ true) × SaysAt e 13 place)
+    ⊎ ((s : ℕ × ℤ) × Scanned (stock_items d.nodes) bs start (Ok (stock_numbers s)) × (s.0 < d.nodes) × (is_some (slice_index_or d.stocks s.0 None) ≡ true) × SaysAt e 13 place)
 
 -- what became of the bytes of an arc
 abbrev pub RoadTook : Draft → List ℕ → ℕ → ℕ → Draft → Result (Unit {0}) Refusal → Type 0

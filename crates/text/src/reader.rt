@@ -1,17 +1,16 @@
 // Reading a whole text.
-ghost use Rattle.std.specs.Prelude.{◌≡◌, ℕ, ◌+◌, ◌<◌, ◌≤◌, [], ◌∷◌, ◌++◌, length, take, drop};
+ghost use Rattle.std.specs.Prelude.{◌≡◌, ℕ, ◌+◌, ◌<◌, ◌≤◌, ◌++◌, length, take, drop, map};
 ghost use Rattle.network.specs.Limits.{max_text};
-ghost use Rattle.network.specs.Refusals.{SaysAt};
-ghost use Rattle.lines.specs.Word.{spelt, furthest as reach};
-ghost use Rattle.lines.specs.declared.word.Word.TheVariants.{Net};
+ghost use Rattle.arrayvec.specs.ArrayVec.{array_vec_len};
 ghost use Rattle.text.specs.Reader.{Answered, FirstRead};
+ghost use Rattle.text.specs.Drafts.{stock_said};
 
 use crate::draft::Draft;
 use crate::sizes::Sizes;
 use forms::form::net;
 use forms::rest::Cursor;
 use lines::line::line;
-use lines::word::{Word, furthest, known};
+use lines::word::Word;
 use network::limits::MAX_TEXT;
 use network::refusal::Refusal;
 use network::road::Road;
@@ -45,44 +44,28 @@ fn first_line(form: &[u8]) -> Result<(u32, u32), Refusal>
     requires { length form.now ≤ max_text }
     ensures { FirstRead form.now result }
 {
-    match known(form) {
-        Some((word, rest)) => first_known(form, word, rest),
-        None => Err(no_net(form)),
+    let line = Cursor {
+        bytes: form,
+        place: 0,
+    };
+    match line.word() {
+        Some((Word::Net, rest)) => net(rest),
+        _ => Err(line.no_word(&[Word::Net])),
     }
-}
-
-// The same of a line whose word is `word`, with `rest` after it.
-fn first_known(form: &[u8], word: Word, rest: &[u8]) -> Result<(u32, u32), Refusal>
-    requires { (length form.now ≤ max_text) × (form.now ≡ spelt word ++ rest.now) }
-    ensures { FirstRead form.now result }
-{
-    match word {
-        Word::Net => net(Cursor {
-            bytes: rest,
-            place: form.len() - rest.len(),
-        }),
-        Word::Stock | Word::Arc => Err(no_net(form)),
-    }
-}
-
-// The fault of a first line with another word: at the first byte that does not fit.
-fn no_net(form: &[u8]) -> Refusal
-    ensures { SaysAt result 10 (reach (Net ∷ []) form.now) }
-{
-    Refusal::Form(furthest(form, &[Word::Net]))
 }
 
 impl Draft {
     // Copies what the draft holds to the front of the rows.
     fn copy_into(&self, roads: &mut [Road], stocks: &mut [i32])
-        requires roads { self.now.count ≤ length roads.old }
+        requires roads { array_vec_len self.now.roads ≤ length roads.old }
         requires stocks { self.now.nodes ≤ length stocks.old }
-        ensures roads { roads.new ≡ take self.now.count self.now.roads ++ drop self.now.count roads.old }
-        ensures stocks { stocks.new ≡ take self.now.nodes self.now.stocks ++ drop self.now.nodes stocks.old }
+        ensures roads { roads.new ≡ self.now.roads.items ++ drop (array_vec_len self.now.roads) roads.old }
+        ensures stocks { stocks.new ≡ map stock_said (take self.now.nodes self.now.stocks) ++ drop self.now.nodes stocks.old }
     {
-        let arcs = self.count;
+        roads[..self.roads.len()].copy_from_slice(self.roads.as_slice());
         let nodes = self.nodes as usize;
-        roads[0..arcs].copy_from_slice(&self.roads[0..arcs]);
-        stocks[0..nodes].copy_from_slice(&self.stocks[0..nodes]);
+        for (i, stock) in self.stocks[..nodes].iter().enumerate() {
+            stocks[i] = stock.unwrap_or(0);
+        }
     }
 }
