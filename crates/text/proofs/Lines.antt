@@ -29,7 +29,7 @@ stock_held d d' s es rs inside free p h = record {
 pub stock_line : (d d' : Draft) (form rest : List ℕ) (place start : ℕ) (r : Result (Unit {0}) Refusal) → start ≡ place + length (spelt Stock) → form ≡ spelt Stock ++ rest → length d.roads.items ≡ 0
     → StockTook d rest start place d' r → LineTook d form place d' r
 stock_line d d' form rest place start (Ok u) b e z (s, read, inside, free, p) =
-    let v = stock_values d.nodes rest start s d.some read in (
+    let v = stock_values d.sizes.nodes rest start s d.some read in (
       p.sizes,
       λ es rs h.
           let few = d.nodes_few in
@@ -37,9 +37,9 @@ stock_line d d' form rest place start (Ok u) b e z (s, read, inside, free, p) =
           let fresh : named es s.0 ≡ false = sym (h.marks s.0 within) ∙ free in
           (es ++ (s ∷ []), rs, a_stock (sym (ap length h.roads_are) ∙ z) s (e ∙ v.0) v.1 fresh refl refl, stock_held d d' s es rs within fresh p h),
     )
-stock_line d d' form rest place start (Err x) b e z (inl read) = λ es rs h. bad_stock (sym (ap length h.roads_are) ∙ z) rest e (subst (λ k. Faulty (stock_items d.nodes) rest k x) b (faulty _ rest start x read))
+stock_line d d' form rest place start (Err x) b e z (inl read) = λ es rs h. bad_stock (sym (ap length h.roads_are) ∙ z) rest e (subst (λ k. Faulty (stock_items d.sizes.nodes) rest k x) b (faulty _ rest start x read))
 stock_line d d' form rest place start (Err x) b e z (inr (s, read, inside, taken, says)) =
-    let v = stock_values d.nodes rest start s d.some read in
+    let v = stock_values d.sizes.nodes rest start s d.some read in
     λ es rs h.
     let few = d.nodes_few in
     let within : s.0 < max_nodes = omega arith in
@@ -53,15 +53,15 @@ road_held d d' r es rs p h = record {
   roads_are = p.roads ∙ ap (λ l. l ++ (r ∷ [])) h.roads_are;
 }
 
-pub arc_line : (d d' : Draft) (form rest : List ℕ) (place start : ℕ) (r : Result (Unit {0}) Refusal) → start ≡ place + length (spelt Arc) → form ≡ spelt Arc ++ rest → length d.roads.items < d.arcs
+pub arc_line : (d d' : Draft) (form rest : List ℕ) (place start : ℕ) (r : Result (Unit {0}) Refusal) → start ≡ place + length (spelt Arc) → form ≡ spelt Arc ++ rest → length d.roads.items < d.sizes.arcs
     → RoadTook d rest start place d' r → LineTook d form place d' r
 arc_line d d' form rest place start (Ok u) b e room (r, read, fit, p) =
-    let v = arc_values d.nodes rest start r d.some read in
-    (p.sizes, λ es rs h. (es, rs ++ (r ∷ []), an_arc (subst (λ k. k < d.arcs) (ap length h.roads_are) room) r (e ∙ v.0) v.1 fit refl refl, road_held d d' r es rs p h))
-arc_line d d' form rest place start (Err x) b e room (inl read) = λ es rs h. bad_arc (subst (λ k. k < d.arcs) (ap length h.roads_are) room) rest e (subst (λ k. Faulty (arc_items d.nodes) rest k x) b (faulty _ rest start x read))
+    let v = arc_values d.sizes.nodes rest start r d.some read in
+    (p.sizes, λ es rs h. (es, rs ++ (r ∷ []), an_arc (subst (λ k. k < d.sizes.arcs) (ap length h.roads_are) room) r (e ∙ v.0) v.1 fit refl refl, road_held d d' r es rs p h))
+arc_line d d' form rest place start (Err x) b e room (inl read) = λ es rs h. bad_arc (subst (λ k. k < d.sizes.arcs) (ap length h.roads_are) room) rest e (subst (λ k. Faulty (arc_items d.sizes.nodes) rest k x) b (faulty _ rest start x read))
 arc_line d d' form rest place start (Err x) b e room (inr (r, read, unfit, says)) =
-    let v = arc_values d.nodes rest start r d.some read in
-    λ es rs h. impassable (subst (λ k. k < d.arcs) (ap length h.roads_are) room) r (e ∙ v.0) v.1 unfit says
+    let v = arc_values d.sizes.nodes rest start r d.some read in
+    λ es rs h. impassable (subst (λ k. k < d.sizes.arcs) (ap length h.roads_are) room) r (e ∙ v.0) v.1 unfit says
 
 -- where the bytes after a word stand
 pub after_word : (w : Word) (form rest : List ℕ) (place : ℕ) → form ≡ spelt w ++ rest → place + (length form - length rest) ≡ place + length (spelt w)
@@ -91,15 +91,15 @@ all_open P true false p q = (p refl, tt)
 all_open P false true p q = (q refl, tt)
 all_open P false false p q = tt
 
-pub closed_line : (d : Draft) (form : List ℕ) (place : ℕ) (e : Refusal) → (length d.roads.items ≡ 0 → BeginsNot Stock form) → (length d.roads.items < d.arcs → BeginsNot Arc form)
-    → SaysAt e 10 (place + furthest (open_words d.arcs (length d.roads.items)) form) → (es : List (ℕ × ℤ)) (rs : List Road) → Holds d es rs → LineFault d.nodes d.arcs es rs form place e
+pub closed_line : (d : Draft) (form : List ℕ) (place : ℕ) (e : Refusal) → (length d.roads.items ≡ 0 → BeginsNot Stock form) → (length d.roads.items < d.sizes.arcs → BeginsNot Arc form)
+    → SaysAt e 10 (place + furthest (open_words d.sizes.arcs (length d.roads.items)) form) → (es : List (ℕ × ℤ)) (rs : List Road) → Holds d es rs → LineFault d.sizes.nodes d.sizes.arcs es rs form place e
 closed_line d form place e p q says es rs h =
-    subst (λ k. NoWord (open_words d.arcs k) form place e → LineFault d.nodes d.arcs es rs form place e) (sym (ap length h.roads_are)) no_word
-    (record { none = all_open (λ w. BeginsNot w form) (eqb (length d.roads.items) 0) (ltb (length d.roads.items) d.arcs) (λ t. p (eqb-true (length d.roads.items) 0 t)) (λ t. q (ltb-true (length d.roads.items) d.arcs t)); says = says })
+    subst (λ k. NoWord (open_words d.sizes.arcs k) form place e → LineFault d.sizes.nodes d.sizes.arcs es rs form place e) (sym (ap length h.roads_are)) no_word
+    (record { none = all_open (λ w. BeginsNot w form) (eqb (length d.roads.items) 0) (ltb (length d.roads.items) d.sizes.arcs) (λ t. p (eqb-true (length d.roads.items) 0 t)) (λ t. q (ltb-true (length d.roads.items) d.sizes.arcs t)); says = says })
 
 -- the line begins with a word that is not open
 pub closed_known : (d : Draft) (form : List ℕ) (w : Word) (rest : List ℕ) (place : ℕ) (e : Refusal) → form ≡ spelt w ++ rest
-    → (length d.roads.items ≡ 0 → mark w ≡ mark Stock → ⊥) → (length d.roads.items < d.arcs → mark w ≡ mark Arc → ⊥)
-    → SaysAt e 10 (place + furthest (open_words d.arcs (length d.roads.items)) form) → (es : List (ℕ × ℤ)) (rs : List Road) → Holds d es rs → LineFault d.nodes d.arcs es rs form place e
+    → (length d.roads.items ≡ 0 → mark w ≡ mark Stock → ⊥) → (length d.roads.items < d.sizes.arcs → mark w ≡ mark Arc → ⊥)
+    → SaysAt e 10 (place + furthest (open_words d.sizes.arcs (length d.roads.items)) form) → (es : List (ℕ × ℤ)) (rs : List Road) → Holds d es rs → LineFault d.sizes.nodes d.sizes.arcs es rs form place e
 closed_known d form w rest place e f p q says =
     closed_line d form place e (λ z more g. p z (other_word w Stock form rest more f g)) (λ l more g. q l (other_word w Arc form rest more f g)) says

@@ -13,7 +13,7 @@ use Rattle.text.specs.declared.sizes.Sizes.{Sizes}
 use Rattle.text.specs.Consignment.{IsConsignment}
 use Rattle.text.specs.Refused.{Refused, no_end, bad_line}
 use Rattle.text.specs.Drafts as drafts
-use Rattle.text.specs.Drafts.{stock_said, Holds, SameSizes, Completed, Stopped}
+use Rattle.text.specs.Drafts.{stock_said, Holds, Completed, Stopped}
 use Rattle.text.specs.Reader.{Taken, Answered}
 use Rattle.std.specs.List.{AllByRecursion}
 use Rattle.std.proofs.ByRecursion.{All-from_get_or}
@@ -46,7 +46,7 @@ copied_more said row now i n z l few room e h =
     ∙ ap (λ r. r ++ drop (i + 1) row) (sym (ap (map stock_said) (take_more said i None (omega arith)) ∙ map-append stock_said (take i said) (get_or said i None ∷ [])))
 
 -- the draft holds a consignment
-consigned : (text : List ℕ) (d : Draft) (c : Completed text d) → IsConsignment text d.nodes d.arcs (map stock_said (take d.nodes d.stocks)) c.roads
+consigned : (text : List ℕ) (d : Draft) (c : Completed text d) → IsConsignment text d.sizes.nodes d.sizes.arcs (map stock_said (take d.sizes.nodes d.stocks)) c.roads
 consigned text d c =
     let b = c.begun in
     let few = d.nodes_few in
@@ -57,8 +57,8 @@ consigned text d c =
       is = sym (take_all (length text) text (omega arith)) ∙ b.front;
       fitting = b.fitting;
       arcs = c.arcs;
-      nodes = length-map (take d.nodes d.stocks) stock_said ∙ length-take-le d.nodes d.stocks (omega arith);
-      stock = λ i l. get_or-map stock_said (take d.nodes d.stocks) i None (pos 0) (omega (arith, length-take-le d.nodes d.stocks (omega arith))) ∙ ap stock_said (get_or-take d.nodes d.stocks i None l) ∙ c.holds.stock i (omega arith);
+      nodes = length-map (take d.sizes.nodes d.stocks) stock_said ∙ length-take-le d.sizes.nodes d.stocks (omega arith);
+      stock = λ i l. get_or-map stock_said (take d.sizes.nodes d.stocks) i None (pos 0) (omega (arith, length-take-le d.sizes.nodes d.stocks (omega arith))) ∙ ap stock_said (get_or-take d.sizes.nodes d.stocks i None l) ∙ c.holds.stock i (omega arith);
     }
 
 -- its rows pass the test of a table
@@ -73,25 +73,23 @@ rows_tested text n m stocks roads c =
     (All-from_get_or (Near max_stock) stocks (pos 0) (λ i h. subst (Near max_stock) (sym (c.stock i (omega arith))) (stock_near n c.entries i c.fitting.stocked)))
     (subst (λ k. AllByRecursion (Ranged k) roads) (sym c.nodes) c.fitting.ranged) c.fitting.passable
 
-pub taken : (text : List ℕ) (d₀ d : Draft) (n m : ℕ) (road_row road_row' : List Road) (stock_row stock_row' : List ℤ) → length text ≤ max_text → m ≤ length road_row → n ≤ length stock_row
-    → d₀.nodes ≡ n → d₀.arcs ≡ m → SameSizes d₀ d → Completed text d
-    → road_row' ≡ d.roads.items ++ drop (length d.roads.items) road_row → stock_row' ≡ map stock_said (take d.nodes d.stocks) ++ drop d.nodes stock_row
-    → Taken text n m road_row road_row' stock_row stock_row'
-taken text d₀ d n m road_row road_row' stock_row stock_row' short p q en em sizes c er es =
-    let nodes : d.nodes ≡ n = sizes.nodes ∙ en in
-    let arcs : d.arcs ≡ m = sizes.arcs ∙ em in
-    let whole = subst (λ k. IsConsignment text k m (map stock_said (take d.nodes d.stocks)) c.roads) nodes (subst (λ k. IsConsignment text d.nodes k (map stock_said (take d.nodes d.stocks)) c.roads) arcs (consigned text d c)) in
-    let count : length d.roads.items ≡ m = ap length c.holds.roads_are ∙ c.arcs ∙ arcs in
-    record {
+pub taken : (text : List ℕ) (d₀ d : Draft) (s : Sizes) (road_row road_row' : List Road) (stock_row stock_row' : List ℤ) → length text ≤ max_text → s.arcs ≤ length road_row → s.nodes ≤ length stock_row
+    → d₀.sizes ≡ s → d.sizes ≡ d₀.sizes → Completed text d
+    → road_row' ≡ d.roads.items ++ drop (length d.roads.items) road_row → stock_row' ≡ map stock_said (take d.sizes.nodes d.stocks) ++ drop d.sizes.nodes stock_row
+    → Taken text s.nodes s.arcs road_row road_row' stock_row stock_row'
+taken text d₀ d s road_row road_row' stock_row stock_row' short p q first same c er es =
+    let whole = consigned text d c in
+    let sizes : d.sizes ≡ s = same ∙ first in
+    subst (λ k. Taken text k.nodes k.arcs road_row road_row' stock_row stock_row') sizes (record {
       short = short;
-      road_room = p;
-      stock_room = q;
-      stocks = map stock_said (take d.nodes d.stocks);
+      road_room = subst (λ k. k.arcs ≤ length road_row) (sym sizes) p;
+      stock_room = subst (λ k. k.nodes ≤ length stock_row) (sym sizes) q;
+      stocks = map stock_said (take d.sizes.nodes d.stocks);
       roads = c.roads;
       consignment = whole;
-      tested = rows_tested text n m (map stock_said (take d.nodes d.stocks)) c.roads whole;
+      tested = rows_tested text d.sizes.nodes d.sizes.arcs (map stock_said (take d.sizes.nodes d.stocks)) c.roads whole;
       filled = record {
-        roads_is = er ∙ ap (λ l. l ++ drop (length d.roads.items) road_row) c.holds.roads_are ∙ ap (λ k. c.roads ++ drop k road_row) count;
-        stocks_is = es ∙ ap (λ k. map stock_said (take d.nodes d.stocks) ++ drop k stock_row) nodes;
+        roads_is = er ∙ ap (λ l. l ++ drop (length d.roads.items) road_row) c.holds.roads_are ∙ ap (λ k. c.roads ++ drop k road_row) (ap length c.holds.roads_are ∙ c.arcs);
+        stocks_is = es;
       };
-    }
+    })

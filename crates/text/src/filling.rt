@@ -2,10 +2,12 @@
 ghost use Rattle.std.specs.Prelude.{◌≡◌, ℕ, ◌+◌, ◌^◌, ◌<◌, ◌≤◌, [], ◌++◌, length};
 ghost use Rattle.arrayvec.specs.ArrayVec.{array_vec_len};
 ghost use Rattle.network.specs.Limits.{max_nodes, max_arcs, max_text};
+ghost use Rattle.text.specs.Consignment.{Sized};
 ghost use Rattle.text.specs.Refused.{open_words, Begun};
 ghost use Rattle.text.specs.Drafts.{Holds, StockTook, RoadTook, LineTook, LinesTook};
 
 use crate::draft::Draft;
+use crate::sizes::Sizes;
 use arrayvec::ArrayVec;
 use forms::form::{arc, stock};
 use forms::rest::Cursor;
@@ -16,14 +18,13 @@ use network::refusal::Refusal;
 
 impl Draft {
     /// An empty draft of these sizes.
-    pub fn new(nodes: u32, arcs: u32) -> Draft
-        requires { (0 < nodes) × ((nodes ≤ max_nodes) × (arcs ≤ max_arcs)) }
-        ensures sizes { (result.nodes ≡ nodes) × (result.arcs ≡ arcs) }
+    pub fn new(sizes: Sizes) -> Draft
+        requires { Sized sizes.nodes sizes.arcs }
+        ensures sizes { result.sizes ≡ sizes }
         ensures empty { Holds result [] [] }
     {
         Draft {
-            nodes,
-            arcs,
+            sizes,
             stocks: [None; MAX_NODES],
             roads: ArrayVec::new(),
         }
@@ -32,7 +33,7 @@ impl Draft {
     /// Reads all lines of a text from `start` on, where the first line ends.
     pub fn take_lines(&mut self, text: &[u8], start: usize) -> Result<(), Refusal>
         requires short { length text.now ≤ max_text }
-        requires begun { Begun text.now self.old.nodes self.old.arcs [] [] start }
+        requires begun { Begun text.now self.old.sizes.nodes self.old.sizes.arcs [] [] start }
         requires empty { Holds self.old [] [] }
         ensures { LinesTook text.now self.old self.new result }
     {
@@ -42,7 +43,7 @@ impl Draft {
             self.take(Cursor { bytes, place })?;
             place += bytes.len() + 1;
         }
-        if self.roads.len() < self.arcs as usize {
+        if self.roads.len() < self.sizes.arcs {
             return Err(Refusal::Form(text.len()));
         }
         Ok(())
@@ -54,7 +55,7 @@ impl Draft {
     {
         match line.word() {
             Some((Word::Stock, rest)) if self.roads.is_empty() => self.take_stock(rest, line.place),
-            Some((Word::Arc, rest)) if self.roads.len() < self.arcs as usize => {
+            Some((Word::Arc, rest)) if self.roads.len() < self.sizes.arcs => {
                 self.take_arc(rest, line.place)
             }
             _ => Err(line.no_word(self.open_words())),
@@ -63,9 +64,9 @@ impl Draft {
 
     // The words that may begin the next line.
     fn open_words(&self) -> &'static [Word]
-        ensures { result.now ≡ open_words self.now.arcs (array_vec_len self.now.roads) }
+        ensures { result.now ≡ open_words self.now.sizes.arcs (array_vec_len self.now.roads) }
     {
-        match (self.roads.is_empty(), self.roads.len() < self.arcs as usize) {
+        match (self.roads.is_empty(), self.roads.len() < self.sizes.arcs) {
             (true, true) => &[Word::Stock, Word::Arc],
             (true, false) => &[Word::Stock],
             (false, true) => &[Word::Arc],
@@ -77,7 +78,7 @@ impl Draft {
     fn take_stock(&mut self, rest: Cursor<'_>, place: usize) -> Result<(), Refusal>
         ensures { StockTook self.old rest.entry.bytes.now rest.entry.place place self.new result }
     {
-        let (node, amount) = stock(rest, self.nodes)?;
+        let (node, amount) = stock(rest, self.sizes.nodes as u32)?;
         let i = node as usize;
         if self.stocks[i].is_some() {
             return Err(Refusal::NamedTwice(place));
@@ -88,10 +89,10 @@ impl Draft {
 
     // Takes an arc from what follows the word of the line at `place`.
     fn take_arc(&mut self, rest: Cursor<'_>, place: usize) -> Result<(), Refusal>
-        requires { array_vec_len self.old.roads < self.old.arcs }
+        requires { array_vec_len self.old.roads < self.old.sizes.arcs }
         ensures { RoadTook self.old rest.entry.bytes.now rest.entry.place place self.new result }
     {
-        let road = arc(rest, self.nodes)?;
+        let road = arc(rest, self.sizes.nodes as u32)?;
         if !road.is_passable() {
             return Err(Refusal::Impassable(place));
         }

@@ -26,21 +26,18 @@ pub fn read(text: &[u8], roads: &mut [Road], stocks: &mut [i32]) -> Result<Sizes
         return Err(Refusal::TextSize);
     }
     let form = line(text, 0)?;
-    let (nodes, arcs) = first_line(form)?;
-    if roads.len() < arcs as usize || stocks.len() < nodes as usize {
+    let sizes = first_line(form)?;
+    if roads.len() < sizes.arcs || stocks.len() < sizes.nodes {
         return Err(Refusal::TextRows);
     }
-    let mut draft = Draft::new(nodes, arcs);
+    let mut draft = Draft::new(sizes);
     draft.take_lines(text, form.len() + 1)?;
     draft.copy_into(roads, stocks);
-    Ok(Sizes {
-        nodes: nodes as usize,
-        arcs: arcs as usize,
-    })
+    Ok(sizes)
 }
 
 // The numbers of nodes and arcs that the first line names.
-fn first_line(form: &[u8]) -> Result<(u32, u32), Refusal>
+fn first_line(form: &[u8]) -> Result<Sizes, Refusal>
     requires { length form.now ≤ max_text }
     ensures { FirstRead form.now result }
 {
@@ -49,7 +46,13 @@ fn first_line(form: &[u8]) -> Result<(u32, u32), Refusal>
         place: 0,
     };
     match line.word() {
-        Some((Word::Net, rest)) => net(rest),
+        Some((Word::Net, rest)) => {
+            let (nodes, arcs) = net(rest)?;
+            Ok(Sizes {
+                nodes: nodes as usize,
+                arcs: arcs as usize,
+            })
+        }
         _ => Err(line.no_word(&[Word::Net])),
     }
 }
@@ -58,12 +61,12 @@ impl Draft {
     // Copies what the draft holds to the front of the rows.
     fn copy_into(&self, roads: &mut [Road], stocks: &mut [i32])
         requires roads { array_vec_len self.now.roads ≤ length roads.old }
-        requires stocks { self.now.nodes ≤ length stocks.old }
+        requires stocks { self.now.sizes.nodes ≤ length stocks.old }
         ensures roads { roads.new ≡ self.now.roads.items ++ drop (array_vec_len self.now.roads) roads.old }
-        ensures stocks { stocks.new ≡ map stock_said (take self.now.nodes self.now.stocks) ++ drop self.now.nodes stocks.old }
+        ensures stocks { stocks.new ≡ map stock_said (take self.now.sizes.nodes self.now.stocks) ++ drop self.now.sizes.nodes stocks.old }
     {
         roads[..self.roads.len()].copy_from_slice(self.roads.as_slice());
-        let nodes = self.nodes as usize;
+        let nodes = self.sizes.nodes;
         for (i, stock) in self.stocks[..nodes].iter().enumerate() {
             stocks[i] = stock.unwrap_or(0);
         }

@@ -25,7 +25,7 @@ returns-in_default c =
     let d = c.args.self.now in
     let form = c.args.line.bytes.now in
     let place = c.args.line.place in
-    let says : SaysAt c.no_word.result 10 (place + furthest (open_words d.arcs (length d.roads.items)) form) =
+    let says : SaysAt c.no_word.result 10 (place + furthest (open_words d.sizes.arcs (length d.roads.items)) form) =
     subst (λ ws. SaysAt c.no_word.result 10 (place + furthest ws form)) c.open_words.ensures c.no_word.ensures in
     elim c.in_default.branch [
       | in_default-via-in-Some-Stock-default+else-is_empty w ↦ (let k = w.in-Some-Stock-default in

@@ -19,4 +19,4 @@ loop-place-preserved c = reading_more c.args.text.now c.args.self.now c.loop-pla
 
 pub returns-then-len-self : goal.returns-then-len-self
 returns-then-len-self c = end_stops c.args.text.now c.args.self.now c.loop-place.self c.loop-place.place _
-    (past_end c.args.text.now c.loop-place.place c.loop-place-test.false) (inr (subst (λ n. n < c.loop-place.self.arcs) c.len.ensures.value c.if-len-self.true)) (refl, refl) c.loop-place.invariant
+    (past_end c.args.text.now c.loop-place.place c.loop-place-test.false) (inr (subst (λ n. n < c.loop-place.self.sizes.arcs) c.len.ensures.value c.if-len-self.true)) (refl, refl) c.loop-place.invariant

@@ -32,6 +32,6 @@ returns c =
       record {
         stocks = set-set _ _ _ _ ∙ ap (λ z. set c.args.self.now.stocks c.in_ok-node.node (Some z)) (to_z-of_z w32 c.in_ok-node.amount f);
         roads = refl;
-        sizes = record { nodes = refl; arcs = refl };
+        sizes = refl;
       },
     )
