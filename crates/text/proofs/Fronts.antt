@@ -1,5 +1,5 @@
 -- How the front of a text grows by a line.
-use Rattle.std.proofs.Common.{◌≡◌, ℕ, ◌+◌, ◌<◌, ◌≤◌, ◌⊎◌, List, [], ◌∷◌, ◌++◌, length, take, drop, ℤ, IsErrAnd, Ok, Err, Result, sym, refl, ap, ◌∙◌, subst, inl, inr, append_assoc, append-nil, add_assoc, arith}
+use Rattle.std.proofs.Common.{◌≡◌, ℕ, ◌+◌, ◌<◌, ◌≤◌, ◌⊎◌, List, [], ◌∷◌, ◌++◌, length, take, drop, ℤ, IsErrAnd, Ok, Err, Result, sym, ap, ◌∙◌, subst, inl, inr, append_assoc, append-nil, add_assoc, arith}
 use Rattle.std.specs.List.{flat_map}
 use Rattle.std.proofs.ByRecursion.{All-push}
 use Rattle.std.proofs.lemmas.List.{take_more, take-append-drop, take-take, drop-take, flat_map_more, nil_from_length, length_push}
@@ -10,7 +10,7 @@ use Rattle.lines.specs.Line.{LineAt, NoLine}
 use Rattle.text.specs.declared.draft.Draft.{Draft}
 use Rattle.text.specs.Consignment.{net_form, stock_form, arc_form, ended, text_of}
 use Rattle.text.specs.Refused.{Begun, LineFault}
-use Rattle.text.specs.Drafts.{Holds, LineRead, a_stock, an_arc, LineTook, LinesTook, Completed, Stopped, no_end, bad_line}
+use Rattle.text.specs.Drafts.{Holds, LineRead, a_stock, an_arc, LineTook, LinesTook, Stopped, no_end, bad_line}
 use Rattle.text.proofs.Entries.{once_more}
 
 -- the text up to the end of a line
@@ -82,9 +82,6 @@ pub record Reading (text : List ℕ) (d₀ d : Draft) (place : ℕ) : Type 0 whe
   pub begun : Begun text d.sizes.nodes d.sizes.arcs entries roads place
   pub holds : Holds d entries roads
 
-pub reading_none : (text : List ℕ) (d : Draft) (place : ℕ) → Begun text d.sizes.nodes d.sizes.arcs [] [] place → Holds d [] [] → Reading text d d place
-reading_none text d place b h = record { sizes = refl; entries = []; roads = []; begun = b; holds = h }
-
 pub reading_more : (text : List ℕ) (d₀ d d' : Draft) (place : ℕ) (form : List ℕ) → LineAt text place form → LineTook d form place d' (Ok tt) → Reading text d₀ d place
     → Reading text d₀ d' (place + (length form + 1))
 reading_more text d₀ d d' place form at took h =
@@ -115,20 +112,6 @@ end_stops text d₀ d place e none (inr l) says h =
 
 pub past_end : (text : List ℕ) (place : ℕ) → length text ≤ place → NoLine text place
 past_end text place l k from to e = omega arith
-
-pub completed : (text : List ℕ) (d₀ d : Draft) (place : ℕ) → length text ≤ place → d.sizes.arcs ≤ length d.roads.items → Reading text d₀ d place → Completed text d
-completed text d₀ d place l full h =
-    let in_text = h.begun.inside in
-    let whole : place ≡ length text = omega arith in
-    let count = ap length h.holds.roads_are in
-    let few = h.begun.few in
-    record {
-      entries = h.entries;
-      roads = h.roads;
-      begun = subst (λ k. Begun text d.sizes.nodes d.sizes.arcs h.entries h.roads k) whole h.begun;
-      arcs = omega arith;
-      holds = h.holds;
-    }
 
 -- the exit of a `?`
 pub stops : (text : List ℕ) (d₀ d : Draft) (r : Result (Unit {0}) Refusal) (e : Refusal) → IsErrAnd r (λ y. y ≡ e) → Stopped text d₀.sizes.nodes d₀.sizes.arcs e → LinesTook text d₀ d r

@@ -1,7 +1,6 @@
 -- One line more.
-use Rattle.std.proofs.Common.{◌≡◌, ℕ, ◌+◌, ◌-◌, ◌<◌, Bool, true, false, cond, eqb, ltb, List, [], ◌∷◌, ◌++◌, length, get_or, ℤ, None, is_some, Ok, Err, Result, sym, refl, ap, ◌∙◌, subst, inl, inr, arith}
+use Rattle.std.proofs.Common.{◌≡◌, ℕ, ◌+◌, ◌<◌, Bool, true, false, cond, eqb, ltb, List, [], ◌∷◌, ◌++◌, length, get_or, ℤ, None, is_some, Ok, Err, Result, sym, refl, ap, ◌∙◌, subst, inl, inr, arith}
 use Rattle.std.specs.List.{AllByRecursion}
-use Rattle.std.proofs.lemmas.List.{length-append}
 use Rattle.std.proofs.lemmas.Bool.{eqb-true, ltb-true}
 use Rattle.network.specs.Limits.{max_nodes}
 use Rattle.network.specs.Refusals.{SaysAt}
@@ -62,10 +61,6 @@ arc_line d d' form rest place start (Err x) b e room (inl read) = λ es rs h. ba
 arc_line d d' form rest place start (Err x) b e room (inr (r, read, unfit, says)) =
     let v = arc_values d.sizes.nodes rest start r d.some read in
     λ es rs h. impassable (subst (λ k. k < d.sizes.arcs) (ap length h.roads_are) room) r (e ∙ v.0) v.1 unfit says
-
--- where the bytes after a word stand
-pub after_word : (w : Word) (form rest : List ℕ) (place : ℕ) → form ≡ spelt w ++ rest → place + (length form - length rest) ≡ place + length (spelt w)
-after_word w form rest place e = omega (arith, ap length e, length-append (spelt w) rest)
 
 -- a form begins with one word at most
 abbrev pub mark : Word → ℕ
