@@ -58,6 +58,7 @@ impl<'a> Cursor<'a> {
         requires { (low < 2 ^ 31) × (high < 2 ^ 31) }
         ensures { Reads (num (pos low) (pos high) ∷ []) self.old.bytes.now self.old.place (by whole result) self.new.bytes.now self.new.place }
     {
+        // kept: `as` is proved to lose nothing here, and `try_from` would need a refusal that never comes.
         let value = self.number(Range {
             low: low as i32,
             high: high as i32,

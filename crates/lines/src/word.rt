@@ -39,6 +39,7 @@ impl Word {
 pub fn known(form: &[u8]) -> Option<(Word, &[u8])>
     ensures { MatchOption result ((w : Word) (rest : List ℕ) → form.now ≢ spelt w ++ rest) (λ k. form.now ≡ spelt k.0 ++ k.1.now) }
 {
+    // kept: slice patterns take bracket, word and rest of a form apart.
     match form {
         [b'(', b'n', b'e', b't', b' ', rest @ ..] => Some((Word::Net, rest)),
         [b'(', b's', b't', b'o', b'c', b'k', b' ', rest @ ..] => Some((Word::Stock, rest)),

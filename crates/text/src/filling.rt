@@ -38,6 +38,7 @@ impl Draft {
         ensures { LinesTook text.now self.old self.new result }
     {
         let mut place = start;
+        // kept: an iterator over lines would hold the same text and place, and say each line of this loop in its `next`.
         while place < text.len() {
             let bytes = line(text, place)?;
             self.take(Cursor { bytes, place })?;
