@@ -1,5 +1,5 @@
 // Reading a line item by item.
-ghost use Rattle.std.specs.Prelude.{◌≡◌, ℕ, ◌+◌, ◌^◌, ◌<◌, List, [], ◌∷◌, ◌++◌, length, pos, ◌≤ℤ◌, IfOk, MatchOption, ◌≢◌};
+ghost use Rattle.std.specs.Prelude.{◌≡◌, ℕ, ◌+◌, ◌^◌, ◌<◌, List, [], ◌∷◌, ◌++◌, ◌≤◌, length, pos, ◌≤ℤ◌, IfOk, MatchOption, ◌≢◌};
 ghost use Rattle.network.specs.Refusals.{SaysAt};
 ghost use Rattle.lines.specs.Word.{spelt, furthest as reach};
 ghost use Rattle.forms.specs.Form.{pair as twice, cost as rate};
@@ -56,7 +56,8 @@ impl<'a> Cursor<'a> {
     /// Takes a number from `low` to `high`.
     pub fn natural(&mut self, low: u32, high: u32) -> Result<u32, Refusal>
         requires { (low < 2 ^ 31) × (high < 2 ^ 31) }
-        ensures { Reads (num (pos low) (pos high) ∷ []) self.old.bytes.now self.old.place (by whole result) self.new.bytes.now self.new.place }
+        ensures reads { Reads (num (pos low) (pos high) ∷ []) self.old.bytes.now self.old.place (by whole result) self.new.bytes.now self.new.place }
+        ensures within { IfOk result (λ v. (low ≤ v) × (v ≤ high)) }
     {
         // kept: `as` is proved to lose nothing here, and `try_from` would need a refusal that never comes.
         let value = self.number(Range {

@@ -1,7 +1,6 @@
 // The three forms, from their words on.
-ghost use Rattle.std.specs.Prelude.{◌≡◌, ℕ, ◌+◌, ◌^◌, ◌<◌, ◌≤◌, true, length, MatchBool};
+ghost use Rattle.std.specs.Prelude.{◌≡◌, ℕ, ◌<◌, ◌≤◌, true, IfOk};
 ghost use Rattle.network.specs.Limits.{max_nodes};
-ghost use Rattle.network.specs.Roads.{Passable};
 ghost use Rattle.forms.specs.Form.{net_items, stock_items, arc_items, stock_numbers, road_numbers};
 ghost use Rattle.forms.specs.Scan.{Scanned, by, naturals};
 ghost use Rattle.forms.specs.Written.{Accepts, Points, plain};
@@ -27,7 +26,8 @@ pub fn net(mut rest: Cursor<'_>) -> Result<(u32, u32), Refusal>
 /// A node and its stock, `I B)`, where there are so many nodes.
 pub fn stock(mut rest: Cursor<'_>, nodes: u32) -> Result<(u32, i32), Refusal>
     requires nodes { (0 < nodes) × (nodes ≤ max_nodes) }
-    ensures { Scanned (stock_items nodes) rest.entry.bytes.now rest.entry.place (by stock_numbers result) }
+    ensures reads { Scanned (stock_items nodes) rest.entry.bytes.now rest.entry.place (by stock_numbers result) }
+    ensures node { IfOk result (λ s. s.0 < nodes) }
 {
     let node = rest.natural(0, nodes - 1)?;
     rest.byte(b' ')?;

@@ -1,5 +1,5 @@
 // Lines.
-ghost use Rattle.std.specs.Prelude.{◌≡◌, ◌<◌, length, unwrap_or, IfSome, MatchResult};
+ghost use Rattle.std.specs.Prelude.{◌<◌, length, unwrap_or, IfSome, MatchResult};
 ghost use Rattle.network.specs.Refusals.{SaysAt};
 ghost use Rattle.lines.specs.Line.{LineAt, NoLine, NextEnd};
 

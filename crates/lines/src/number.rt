@@ -1,5 +1,5 @@
 // Numbers: an optional minus and digits.
-ghost use Rattle.std.specs.Prelude.{◌≡◌, ℕ, ◌+◌, ◌^◌, ◌<◌, ◌≤◌, length, pos, neg_ℤ, if◌then◌else◌, ◌&&◌, int_le, Ok, Err, MatchResult};
+ghost use Rattle.std.specs.Prelude.{◌≡◌, ◌+◌, ◌^◌, ◌<◌, ◌≤◌, length, pos, neg_ℤ, if◌then◌else◌, ◌&&◌, int_le, Ok, Err, MatchResult};
 ghost use Rattle.lines.specs.Number.{max_digits, continued, AllDigits, minus, figures, width, valued, judged, number};
 
 use network::refusal::Refusal;

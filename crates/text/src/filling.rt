@@ -1,7 +1,7 @@
 // Filling a draft line by line.
-ghost use Rattle.std.specs.Prelude.{◌≡◌, ℕ, ◌+◌, ◌^◌, ◌<◌, ◌≤◌, [], ◌++◌, length};
+ghost use Rattle.std.specs.Prelude.{◌≡◌, ◌<◌, ◌≤◌, [], length};
 ghost use Rattle.arrayvec.specs.ArrayVec.{array_vec_len};
-ghost use Rattle.network.specs.Limits.{max_nodes, max_arcs, max_text};
+ghost use Rattle.network.specs.Limits.{max_text};
 ghost use Rattle.text.specs.Consignment.{Sized};
 ghost use Rattle.text.specs.Refused.{open_words, Begun};
 ghost use Rattle.text.specs.Drafts.{Holds, StockTook, RoadTook, LineTook, LinesTook};
