@@ -1,5 +1,5 @@
-use Rattle.std.proofs.Common.{◌≡◌, [], ◌∷◌, ◌++◌, length, ap, ◌∙◌, subst, zero-add, rules}
-use Rattle.lines.specs.Word.{spelt, furthest}
+use Rattle.std.proofs.Common.{◌≡◌, [], ◌∷◌, ◌∙◌, subst, zero-add, rules}
+use Rattle.lines.specs.Word.{furthest}
 use Rattle.lines.specs.declared.word.Word.TheVariants.{Net}
 use Rattle.text.proofs.First.{net_good, net_bad, no_first_word, other_first}
 use Rattle.network.specs.Refusals.{SaysAt}
@@ -9,13 +9,15 @@ use Rattle.text.proofs.reader.first_line.Goals.{in_default-via-in-Some+in_defaul
 pub returns-in_err-nodes-in-Some-Net-default : goal.returns-in_err-nodes-in-Some-Net-default
 returns-in_err-nodes-in-Some-Net-default c =
     let k = c.in-Some-Net-default in
-    net_bad c.args.form.now k.rest.bytes.now k.rest.place c.from_residual.result _ c.from_residual.ensures.1 (k.ensures.0 ∙ ap (λ w. spelt w ++ k.rest.bytes.now) k.field-0-0-is)
-    (k.ensures.1 ∙ zero-add _ ∙ ap (λ w. length (spelt w)) k.field-0-0-is) c.in_err-nodes-in-Some-Net-default.ensures
+    let h = rw k.field-0-0-is at k.ensures in
+    net_bad c.args.form.now k.rest.bytes.now k.rest.place c.from_residual.result _ c.from_residual.ensures.1 h.0
+    (h.1 ∙ zero-add _) c.in_err-nodes-in-Some-Net-default.ensures
 
 pub returns-in_ok-nodes-in-Some-Net-default : goal.returns-in_ok-nodes-in-Some-Net-default
 returns-in_ok-nodes-in-Some-Net-default c =
     let k = c.in-Some-Net-default in
-    net_good c.args.form.now k.rest.bytes.now k.rest.place _ _ (k.ensures.0 ∙ ap (λ w. spelt w ++ k.rest.bytes.now) k.field-0-0-is) c.in_ok-nodes-in-Some-Net-default.ensures
+    let h = rw k.field-0-0-is at k.ensures in
+    net_good c.args.form.now k.rest.bytes.now k.rest.place _ _ h.0 c.in_ok-nodes-in-Some-Net-default.ensures
 
 pub returns-in_default : goal.returns-in_default
 returns-in_default c =
