@@ -1,13 +1,10 @@
 use Rattle.std.proofs.Common.{refl, inl, inr}
-use Rattle.text.specs.Refused.{too_long, no_first, bad_first, short_rows}
-use Rattle.text.proofs.First.{begun_first, begun_draft, stopped_draft}
+use Rattle.text.specs.Refused.{no_first, bad_first, short_rows}
+use Rattle.text.proofs.First.{begun_first, stopped_draft}
 use Rattle.text.proofs.Outcomes.{later, refusal, taken}
 use Rattle.text.proofs.Settled.{settled}
 use Rattle.text.proofs.reader.read.Goals as goal
 use Rattle.text.proofs.reader.read.Goals.{then-roads-sizes-via-then-roads-sizes, then-roads-sizes-via-else-roads-sizes+then-stocks-sizes}
-
-pub returns-then-text-gt-MAX_TEXT : goal.returns-then-text-gt-MAX_TEXT
-returns-then-text-gt-MAX_TEXT c = settled _ _ _ _ _ _ (too_long c.if-text-gt-MAX_TEXT.true (refl, refl), refl, refl)
 
 pub returns-in_err-form : goal.returns-in_err-form
 returns-in_err-form c =
@@ -29,16 +26,6 @@ returns-then-roads-sizes c =
       refl,
       refl,
     )
-
-pub take_lines-requires : goal.take_lines-requires
-take_lines-requires c =
-    let f = c.in_ok-sizes.ensures in
-    record {
-      short = c.if-text-gt-MAX_TEXT.false;
-      begun = begun_draft c.args.text.now c.in_ok-form.form.now c.in_ok-sizes.sizes c.new-draft.result c.new-draft.ensures.sizes
-          (begun_first c.args.text.now c.in_ok-form.form.now _ _ c.in_ok-form.ensures f.0 f.1);
-      empty = c.new-draft.ensures.empty;
-    }
 
 pub returns-in_err-take_lines : goal.returns-in_err-take_lines
 returns-in_err-take_lines c = refusal c.args.text.now c.args.roads.now c.args.stocks.now c.from_residual-in_err-take_lines.result _ c.from_residual-in_err-take_lines.ensures.1
