@@ -45,9 +45,6 @@ begun_first text form n m at e s = record {
   few = omega arith;
 }
 
--- the sizes of a new draft are those of the first line
-pub begun_draft : (text form : List ℕ) (s : Sizes) (d : Draft) → d.sizes ≡ s → Begun text s.nodes s.arcs [] [] (length form + 1) → Begun text d.sizes.nodes d.sizes.arcs [] [] (length form + 1)
-begun_draft text form s d e b = subst (λ k. Begun text k.nodes k.arcs [] [] (length form + 1)) (sym e) b
-
+-- a new draft has the sizes of the first line
 pub stopped_draft : (text : List ℕ) (d : Draft) (s : Sizes) (e : Refusal) → d.sizes ≡ s → Stopped text d.sizes.nodes d.sizes.arcs e → Stopped text s.nodes s.arcs e
 stopped_draft text d s e same h = subst (λ k. Stopped text k.nodes k.arcs e) same h
