@@ -14,15 +14,15 @@ use Rattle.forms.proofs.Numerals.{number_sound, number_complete, number_fault, n
 
 taken : {X : Type 0} (b : Bool) (e : Refusal) (x : Result X Refusal) (v : X) → cond b x (Err e) ≡ Ok v → (b ≡ true) × (x ≡ Ok v)
 taken true e x v h = (refl, h)
-taken false e x v h = absurd (let z : ◌≡◌ {A = ℕ} 0 1 = cc in omega arith)
+taken false e x v h = absurd (cc)
 
 onward_ok : (r : Result ℤ Refusal) (s : Result (List ℤ) Refusal) (vs : List ℤ) → onward r s ≡ Ok vs → (v : ℤ) × (ws : List ℤ) × (r ≡ Ok v) × (s ≡ Ok ws) × (v ∷ ws ≡ vs)
 onward_ok (Ok v) (Ok ws) vs h = (v, ws, refl, refl, cc)
-onward_ok (Ok v) (Err e) vs h = absurd (let z : ◌≡◌ {A = ℕ} 0 1 = cc in omega arith)
-onward_ok (Err e) s vs h = absurd (let z : ◌≡◌ {A = ℕ} 0 1 = cc in omega arith)
+onward_ok (Ok v) (Err e) vs h = absurd (cc)
+onward_ok (Err e) s vs h = absurd (cc)
 
 onward_err : (r : Result ℤ Refusal) (s : Result (List ℤ) Refusal) (e : Refusal) → onward r s ≡ Err e → (r ≡ Err e) ⊎ ((v : ℤ) × (r ≡ Ok v) × (s ≡ Err e))
-onward_err (Ok v) (Ok ws) e h = absurd (let z : ◌≡◌ {A = ℕ} 0 1 = cc in omega arith)
+onward_err (Ok v) (Ok ws) e h = absurd (cc)
 onward_err (Ok v) (Err x) e h = inr (v, refl, cc)
 onward_err (Err x) s e h = inl (cc)
 
@@ -30,7 +30,7 @@ nil_is : (vs : List ℤ) → ◌≡◌ {A = Result (List ℤ) Refusal} (Ok []) (
 nil_is vs h = cc
 
 clash : {X : Type 0} (e : Refusal) (vs : List ℤ) → ◌≡◌ {A = Result (List ℤ) Refusal} (Err e) (Ok vs) → X
-clash e vs h = absurd (let z : ◌≡◌ {A = ℕ} 0 1 = cc in omega arith)
+clash e vs h = absurd (cc)
 
 pub sound : (items : List Item) (bs : List ℕ) (p : ℕ) (vs : List ℤ) → scan items bs p ≡ Ok vs → (bs ≡ written items vs) × Within items vs
 sound [] [] p vs h = subst (λ l. ([] ≡ written [] l) × Within [] l) (nil_is vs h) (refl, tt)
@@ -78,10 +78,10 @@ other_byte : (w b : ℕ) (bs rest : List ℕ) → eqb b w ≡ false → b ∷ bs
 other_byte w b bs rest t h = eqb-false b w t (cc)
 
 none_byte : (w : ℕ) (rest : List ℕ) → [] ≡ w ∷ rest → ⊥
-none_byte w rest h = let z : ◌≡◌ {A = ℕ} 0 1 = cc in omega arith
+none_byte w rest h = cc
 
 pub points : Points
-points [] [] p e h = absurd (let z : ◌≡◌ {A = ℕ} 0 1 = cc in omega arith)
+points [] [] p e h = absurd (cc)
 points [] (b ∷ bs) p e h = (omega arith, says_here p e h)
 points (byte w ∷ items) [] p e h = inl (λ rest. none_byte w rest, says_here p e h)
 points (byte w ∷ items) (b ∷ bs) p e h =

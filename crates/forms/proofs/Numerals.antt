@@ -1,15 +1,15 @@
 -- A number is read exactly where it stands as it is written, and its fault is what is wrong with it.
-use Rattle.std.proofs.Common.{◌≡◌, ℕ, zero, suc, ◌+◌, ◌^◌, ◌<◌, ◌≤◌, Bool, true, false, cond, ◌&&◌, ◌||◌, eqb, ltb, ◌⊎◌, List, [], ◌∷◌, ◌++◌, length, get_or, take, drop, ℤ, pos, negsuc, neg_ℤ, ◌≤ℤ◌, Ok, Err, decimal, Result, sym, refl, ap, ◌∙◌, subst, inl, inr, ⊎_elim, append_assoc, zero-add, one-add, arith, rules}
+use Rattle.std.proofs.Common.{◌≡◌, ℕ, zero, suc, ◌+◌, ◌^◌, ◌<◌, ◌≤◌, Bool, true, false, cond, ◌&&◌, ◌||◌, eqb, ltb, ◌⊎◌, List, [], ◌∷◌, ◌++◌, length, get_or, take, drop, ℤ, pos, negsuc, neg_ℤ, ◌≤ℤ◌, Ok, Err, decimal, Result, sym, refl, ap, ◌∙◌, subst, inl, inr, ⊎_elim, append_assoc, zero-add, one-add, arith}
 use lib.Signed.{le_z}
 use Rattle.std.specs.Char.{is_ascii_digit}
 use Rattle.std.specs.Int.{IsInRange}
 use Rattle.std.specs.Fmt.{signed_decimal}
 use Rattle.std.proofs.lemmas.Int.{ints}
-use Rattle.std.proofs.lemmas.Bool.{eq-eqb, ne_eqb, eqb-true, eqb-false, cond-true, cond-false, cases_lt, and_parts, and_from, ltb-true, ltb-false, le-ltb, or_parts, or_cases, true≢false}
+use Rattle.std.proofs.lemmas.Bool.{eq-eqb, ne_eqb, eqb-true, cond-true, cond-false, cases_lt, and_parts, and_from, ltb-true, ltb-false, le-ltb, or_parts, or_cases, true≢false}
 use Rattle.std.proofs.lemmas.Bool.Decides.{nat_tests}
 use Rattle.std.proofs.lemmas.List.{take-append-drop, get_or_append_left, take_at, drop_at, length-take-le}
 use Rattle.std.proofs.lemmas.List.Sums.{prefix_len-le-length}
-use Rattle.std.proofs.lemmas.Str.Parse.{IsNumeralModel, numerals_by_fold, tells_by_index, digits_value_short}
+use Rattle.std.proofs.lemmas.Str.Parse.{digits_value_short}
 use Rattle.std.proofs.lemmas.Fmt.{decimal-digits_value, decimal_nonempty, first_decimal, length-decimal-le, decimal_digit, digits_decimal, digits_value-decimal}
 use Rattle.network.proofs.Tested.{test_le, le_test}
 use Rattle.network.specs.declared.refusal.Refusal.{Refusal}
@@ -17,22 +17,19 @@ use Rattle.network.specs.declared.refusal.Refusal.TheVariants.{Form, Number}
 use Rattle.network.specs.Refusals.{SaysAt}
 use Rattle.lines.specs.Number.{max_digits, run, judged, continued, AllDigits, padded, valued, ranged, minus, unsigned, figures, width, number}
 use Rattle.forms.specs.Written.{Stops, sign, Numeral, Padded, NumberFault, no_digit, padding, many_digits, out_of_range}
-use Rattle.lines.proofs.Figures.{front_digits}
+use Rattle.lines.proofs.Figures.{own, front_digits}
 
 digit_is : (b : ℕ) → IsInRange 48 57 b → is_ascii_digit b ≡ true
 digit_is b h = grind (arith, nat_tests)
 
-pub own : IsNumeralModel AllDigits (continued 0)
-own = numerals_by_fold AllDigits tells_by_index continued (search rules)
-
 -- a cond that came out as Ok
 past : {X : Type 0} (b : Bool) (e : Refusal) (x : Result X Refusal) (v : X) → cond b (Err e) x ≡ Ok v → (b ≡ false) × (x ≡ Ok v)
-past true e x v h = absurd (let z : ◌≡◌ {A = ℕ} 0 1 = cc in omega arith)
+past true e x v h = absurd (cc)
 past false e x v h = (refl, h)
 
 kept : {X : Type 0} (b : Bool) (e : Refusal) (x v : X) → cond b (Ok x) (Err e) ≡ Ok v → (b ≡ true) × (x ≡ v)
 kept true e x v h = (refl, cc)
-kept false e x v h = absurd (let z : ◌≡◌ {A = ℕ} 0 1 = cc in omega arith)
+kept false e x v h = absurd (cc)
 
 -- what an accepted number says of its digits
 record Good (m : Bool) (ds : List ℕ) (low high v : ℤ) : Type 0 where
@@ -44,7 +41,7 @@ record Good (m : Bool) (ds : List ℕ) (low high v : ℤ) : Type 0 where
   below : le_z v high ≡ true
 
 positive : (n : ℕ) → eqb n 0 ≡ false → 0 < n
-positive n h = let ne = eqb-false n 0 h in ⊎_elim (λ l. l) (λ l. absurd (ne (omega arith))) (cases_lt 0 n)
+positive n h = grind (arith, nat_tests)
 
 good : (m : Bool) (ds : List ℕ) (low high v : ℤ) (p : ℕ) → judged m ds low high p ≡ Ok v → Good m ds low high v
 good m ds low high v p h =
@@ -232,7 +229,7 @@ says_number e p h = subst (λ x. SaysAt x 11 p) h (refl, refl)
 ranged_fault : (low high v : ℤ) (p : ℕ) (e : Refusal) → ranged low high p v ≡ Err e → ((low ≤ℤ v) × (v ≤ℤ high) → ⊥) × SaysAt e 11 p
 ranged_fault low high v p e h =
     elim (le_z low v && le_z v high) as (λ t. (le_z low v && le_z v high) ≡ t → cond t (Ok v) (Err (Number p)) ≡ Err e → ((low ≤ℤ v) × (v ≤ℤ high) → ⊥) × SaysAt e 11 p) [
-      | true ↦ λ t q. absurd (let z : ◌≡◌ {A = ℕ} 0 1 = cc in omega arith)
+      | true ↦ λ t q. absurd (cc)
       | false ↦ λ t q. (outside low high v t, says_number e p (err_same {X = ℤ} (Number p) e q))
     ] refl h
 

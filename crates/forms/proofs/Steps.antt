@@ -1,17 +1,11 @@
 -- What one step of a reader does to a scan.
-use Rattle.std.proofs.Common.{◌≡◌, ℕ, ◌+◌, ◌-◌, ◌<◌, eqb, List, [], ◌∷◌, ◌++◌, length, get_or, take, drop, ℤ, IsErrAnd, Ok, Err, Result, sym, refl, ap, ◌∙◌, append_assoc, append-nil}
-use Rattle.std.proofs.lemmas.Bool.{eq-eqb, cond-true}
+use Rattle.std.proofs.Common.{◌≡◌, ℕ, ◌+◌, ◌-◌, List, [], ◌∷◌, ◌++◌, length, take, drop, ℤ, IsErrAnd, Ok, Err, Result, sym, refl, ap, ◌∙◌, append_assoc, append-nil}
 use Rattle.std.proofs.lemmas.List.{take_rest}
-use Rattle.std.proofs.lemmas.Slice.{first_rest}
 use Rattle.network.specs.declared.refusal.Refusal.{Refusal}
 use Rattle.lines.specs.Number.{number, width}
-use Rattle.forms.specs.Scan.{Item, byte, num, scan, push, onward, pushes, Reads, Scanned, by}
+use Rattle.forms.specs.Scan.{Item, num, scan, push, onward, pushes, Reads, Scanned, by}
 
 -- one item
-pub byte_taken : (w : ℕ) (bs : List ℕ) (p : ℕ) (more : List Item) → 0 < length bs → get_or bs 0 0 ≡ w → scan (byte w ∷ more) bs p ≡ scan more (take (length bs - 1) (drop 1 bs)) (p + 1)
-byte_taken w bs p more some is =
-    ap (λ l. scan (byte w ∷ more) l p) (first_rest bs 0 some) ∙ cond-true (eqb (get_or bs 0 0) w) _ _ (eq-eqb _ _ is)
-
 pub number_taken : (low high : ℤ) (bs : List ℕ) (p n : ℕ) (v : ℤ) (more : List Item) → number low high bs p ≡ Ok v → n ≡ width bs
     → scan (num low high ∷ more) bs p ≡ push v (scan more (take (length bs - n) (drop n bs)) (p + n))
 number_taken low high bs p n v more e w =

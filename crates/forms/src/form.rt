@@ -1,7 +1,6 @@
 // The three forms, from their words on.
-ghost use Rattle.std.specs.Prelude.{◌≡◌, ℕ, ◌+◌, ◌^◌, ◌<◌, ◌≤◌, true, length, MatchBool};
+ghost use Rattle.std.specs.Prelude.{◌≡◌, ℕ, ◌<◌, ◌≤◌, true, IfOk};
 ghost use Rattle.network.specs.Limits.{max_nodes};
-ghost use Rattle.network.specs.Roads.{Passable};
 ghost use Rattle.forms.specs.Form.{net_items, stock_items, arc_items, stock_numbers, road_numbers};
 ghost use Rattle.forms.specs.Scan.{Scanned, by, naturals};
 ghost use Rattle.forms.specs.Written.{Accepts, Points, plain};
@@ -12,17 +11,10 @@ use network::limits::{MAX_ARCS, MAX_MOST, MAX_NODES, MAX_STOCK};
 use network::refusal::Refusal;
 use network::road::Road;
 
-const STOCKS: Range = Range {
-    low: -(MAX_STOCK as i32),
-    high: MAX_STOCK as i32,
-};
-
 /// The numbers of nodes and arcs, `N M)`.
-pub fn net(bytes: &[u8], place: usize) -> Result<(u32, u32), Refusal>
-    requires { place + length bytes.now < 2 ^ 63 }
-    ensures { Scanned net_items bytes.now place (by naturals result) }
+pub fn net(mut rest: Cursor<'_>) -> Result<(u32, u32), Refusal>
+    ensures { Scanned net_items rest.entry.bytes.now rest.entry.place (by naturals result) }
 {
-    let mut rest = Cursor { bytes, place };
     let nodes = rest.natural(1, MAX_NODES as u32)?;
     rest.byte(b' ')?;
     let arcs = rest.natural(0, MAX_ARCS as u32)?;
@@ -32,27 +24,24 @@ pub fn net(bytes: &[u8], place: usize) -> Result<(u32, u32), Refusal>
 }
 
 /// A node and its stock, `I B)`, where there are so many nodes.
-pub fn stock(bytes: &[u8], place: usize, nodes: u32) -> Result<(u32, i32), Refusal>
-    requires fits { place + length bytes.now < 2 ^ 63 }
+pub fn stock(mut rest: Cursor<'_>, nodes: u32) -> Result<(u32, i32), Refusal>
     requires nodes { (0 < nodes) × (nodes ≤ max_nodes) }
-    ensures { Scanned (stock_items nodes) bytes.now place (by stock_numbers result) }
+    ensures reads { Scanned (stock_items nodes) rest.entry.bytes.now rest.entry.place (by stock_numbers result) }
+    ensures node { IfOk result (λ s. s.0 < nodes) }
 {
-    let mut rest = Cursor { bytes, place };
     let node = rest.natural(0, nodes - 1)?;
     rest.byte(b' ')?;
-    let amount = rest.number(STOCKS)?;
+    let amount = rest.number(Range::around(MAX_STOCK))?;
     rest.byte(b')')?;
     rest.end()?;
     Ok((node, amount))
 }
 
 /// A road, `(T H) (L U) (C D))`, where there are so many nodes.
-pub fn arc(bytes: &[u8], place: usize, nodes: u32) -> Result<Road, Refusal>
-    requires fits { place + length bytes.now < 2 ^ 63 }
+pub fn arc(mut rest: Cursor<'_>, nodes: u32) -> Result<Road, Refusal>
     requires nodes { (0 < nodes) × (nodes ≤ max_nodes) }
-    ensures { Scanned (arc_items nodes) bytes.now place (by road_numbers result) }
+    ensures { Scanned (arc_items nodes) rest.entry.bytes.now rest.entry.place (by road_numbers result) }
 {
-    let mut rest = Cursor { bytes, place };
     let (tail, head) = rest.naturals(nodes - 1)?;
     rest.byte(b' ')?;
     let (least, most) = rest.naturals(MAX_MOST)?;
@@ -68,13 +57,6 @@ pub fn arc(bytes: &[u8], place: usize, nodes: u32) -> Result<Road, Refusal>
         first,
         second,
     })
-}
-
-/// Whether tail and head differ and least is at most most.
-pub fn passable(road: Road) -> bool
-    ensures { MatchBool result (Passable road) (Passable road → ⊥) }
-{
-    road.tail != road.head && road.least <= road.most
 }
 
 /// What a scan means: bytes are accepted exactly where they are the form with its numbers written out, and a fault points

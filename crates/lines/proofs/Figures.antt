@@ -1,42 +1,44 @@
 -- Runs of digits.
-use Rattle.std.proofs.Common.{◌≡◌, ℕ, zero, suc, ◌+◌, ◌*◌, ◌^◌, ◌<◌, ◌≤◌, true, false, cond, List, [], ◌∷◌, length, get_or, take, drop, sym, refl, subst, pow-suc, add-one, one-add, arith}
-use native.Mathlib.Nat.{pow-le-pow_right}
+use Rattle.std.proofs.Common.{◌≡◌, ℕ, ◌+◌, ◌-◌, ◌*◌, ◌^◌, ◌<◌, ◌≤◌, true, cond, List, [], ◌∷◌, length, get_or, take, drop, sym, refl, ap, ◌∙◌, subst, arith, rules}
 use Rattle.std.specs.Char.{is_ascii_digit}
+use Rattle.std.specs.List.{fold, prefix_len}
 use Rattle.std.specs.Int.{IsInRange}
-use Rattle.std.proofs.lemmas.List.Sums.{prefix_len-drop_yes, prefix_len-drop_no, prefix_len-drop_all}
+use Rattle.std.proofs.lemmas.List.{take_rest, length-take-le, get_or-take}
+use Rattle.std.proofs.lemmas.List.Folds.{length-prefix_len}
+use Rattle.std.proofs.lemmas.List.Sums.{fold_more, prefix_len_passes}
 use Rattle.std.proofs.lemmas.Bool.Decides.{nat_tests}
-use Rattle.lines.specs.Number.{run, AllDigits}
+use Rattle.std.proofs.lemmas.Str.Parse.{IsNumeralModel, numerals_by_fold, tells_by_index, digits_value_short}
+use Rattle.lines.specs.Number.{run, AllDigits, continued, minus, unsigned, figures}
 
-pub run_more : (bs : List ℕ) (n m : ℕ) → n < length bs → is_ascii_digit (get_or bs n 0) ≡ true → n + run (drop n bs) ≡ m → n + 1 + run (drop (n + 1) bs) ≡ m
-run_more bs n m l d e = omega (arith, prefix_len-drop_yes is_ascii_digit bs n 0 l d)
-
-pub run_stop : (bs : List ℕ) (n m : ℕ) → n < length bs → is_ascii_digit (get_or bs n 0) ≡ false → n + run (drop n bs) ≡ m → n ≡ m
-run_stop bs n m l d e = omega (arith, prefix_len-drop_no is_ascii_digit bs n 0 l d)
-
-pub run_end : (bs : List ℕ) (n m : ℕ) → length bs ≤ n → n + run (drop n bs) ≡ m → n ≡ m
-run_end bs n m l e = omega (arith, prefix_len-drop_all is_ascii_digit bs n l)
-
--- one more digit
-pub pow_more : (i n d : ℕ) → n < 10 ^ i → d < 10 → n * 10 + d < 10 ^ (i + 1)
-pow_more i n d h k = rw (add-one, pow-suc) (omega arith)
-
-pub pow_short : (i k : ℕ) → i ≤ k → 10 ^ i ≤ 10 ^ k
-pow_short i k h = pow-le-pow_right (omega arith) h
+-- the digits of the library are these
+pub own : IsNumeralModel AllDigits (continued 0)
+own = numerals_by_fold AllDigits tells_by_index continued (search rules)
 
 digit_in : (b : ℕ) → is_ascii_digit b ≡ true → IsInRange 48 57 b
 digit_in b h = grind (arith, nat_tests)
 
-first_in : (b : ℕ) (ds : List ℕ) → IsInRange 48 57 b → AllDigits ds → AllDigits (b ∷ ds)
-first_in b ds h hs zero l = h
-first_in b ds h hs (suc i) l = hs i (omega arith)
-
 pub front_digits : (bs : List ℕ) → AllDigits (take (run bs) bs)
-front_digits [] = λ i l. absurd (omega arith)
-front_digits (b ∷ bs) =
-    elim (is_ascii_digit b) as (λ t. is_ascii_digit b ≡ t → AllDigits (take (cond t (1 + run bs) 0) (b ∷ bs))) [
-      | true ↦ λ e. rw one-add (λ i. first_in b (take (run bs) bs) (digit_in b e) (front_digits bs) i)
-      | false ↦ λ e i l. absurd (omega arith)
-    ] refl
+front_digits bs i l =
+    let m : i < run bs = omega (arith, length-prefix_len is_ascii_digit bs) in
+    subst (IsInRange 48 57) (sym (get_or-take (run bs) bs i 0 m)) (digit_in (get_or bs i 0) (prefix_len_passes is_ascii_digit bs i 0 m))
 
-pub run_digits : (bs : List ℕ) (n : ℕ) → n ≡ run bs → AllDigits (take n bs)
-run_digits bs n e = subst (λ k. AllDigits (take k bs)) (sym e) (front_digits bs)
+-- what `take_while` gives after the sign
+pub figures_are : (bs : List ℕ) (k n : ℕ) → k ≡ cond (minus bs) 1 0
+    → n ≡ length (take (prefix_len is_ascii_digit (take (length bs - k) (drop k bs))) (take (length bs - k) (drop k bs)))
+    → take n (take (length bs - k) (drop k bs)) ≡ figures bs
+figures_are bs k n i e =
+    let s : take (length bs - k) (drop k bs) ≡ unsigned bs = take_rest bs k ∙ ap (λ j. drop j bs) i in
+    ap (λ j. take j (take (length bs - k) (drop k bs))) (e ∙ length-prefix_len is_ascii_digit (take (length bs - k) (drop k bs)))
+    ∙ ap (λ l. take (run l) l) s
+
+continued_fold : (n : ℕ) (ds : List ℕ) → continued n ds ≡ fold (λ m d. m * 10 + (d - 48)) n ds
+continued_fold n [] = refl
+continued_fold n (d ∷ ds) = continued_fold (n * 10 + (d - 48)) ds
+
+-- one more digit
+pub continued_more : (ds : List ℕ) (i : ℕ) → i < length ds → continued 0 (take (i + 1) ds) ≡ continued 0 (take i ds) * 10 + (get_or ds i 0 - 48)
+continued_more ds i l = continued_fold 0 (take (i + 1) ds) ∙ fold_more _ 0 ds i 0 l ∙ ap (λ n. n * 10 + (get_or ds i 0 - 48)) (sym (continued_fold 0 (take i ds)))
+
+-- a few digits write a small number
+pub continued_small : (ds : List ℕ) (i k : ℕ) → AllDigits ds → i ≤ length ds → i ≤ k → continued 0 (take i ds) < 10 ^ k
+continued_small ds i k h l s = digits_value_short own (take i ds) k (λ j m. subst (IsInRange 48 57) (sym (get_or-take i ds j 0 (omega (arith, length-take-le i ds l)))) (h j (omega (arith, length-take-le i ds l)))) (omega (arith, length-take-le i ds l))

@@ -1,4 +1,2 @@
-pub mod Fronts
 pub mod Reach
 pub mod Figures
-pub mod Signs

@@ -1,5 +1,5 @@
 // Lines.
-ghost use Rattle.std.specs.Prelude.{◌≡◌, length, MatchResult};
+ghost use Rattle.std.specs.Prelude.{◌<◌, length, unwrap_or, IfSome, MatchResult};
 ghost use Rattle.network.specs.Refusals.{SaysAt};
 ghost use Rattle.lines.specs.Line.{LineAt, NoLine, NextEnd};
 
@@ -10,24 +10,19 @@ use network::refusal::Refusal;
 pub fn line(text: &[u8], place: usize) -> Result<&[u8], Refusal>
     ensures { MatchResult result (λ form. LineAt text.now place form.now) (λ e. SaysAt e 10 (length text.now) × NoLine text.now place) }
 {
-    let end = line_end(text, place);
-    if end < text.len() {
-        Ok(&text[place..end])
-    } else {
-        Err(Refusal::Form(text.len()))
+    match line_end(text, place) {
+        Some(end) => Ok(&text[place..end]),
+        None => Err(Refusal::Form(text.len())),
     }
 }
 
-/// The place of the next byte 10 from `from` on, or the text's length.
-pub fn line_end(text: &[u8], from: usize) -> usize
-    ensures { NextEnd text.now from result }
+/// The place of the next byte 10 from `from` on.
+pub fn line_end(text: &[u8], from: usize) -> Option<usize>
+    ensures next { NextEnd text.now from (unwrap_or result (length text.now)) }
+    ensures inside { IfSome result (λ at. at < length text.now) }
 {
-    let mut at = from;
-    while at < text.len() {
-        if text[at] == b'\n' {
-            return at;
-        }
-        at += 1;
-    }
-    text.len()
+    text.iter()
+        .skip(from)
+        .position(|b| *b == b'\n')
+        .map(|i| from + i)
 }

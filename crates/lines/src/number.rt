@@ -1,14 +1,34 @@
 // Numbers: an optional minus and digits.
-ghost use Rattle.std.specs.Prelude.{◌≡◌, ℕ, ◌+◌, ◌^◌, ◌<◌, ◌≤◌, length, take, if◌then◌else◌, Ok, Err, MatchResult};
-ghost use Rattle.lines.specs.Number.{max_digits, continued, run, AllDigits, minus, unsigned as bare, width, valued, ranged as checked, judged as told, number};
+ghost use Rattle.std.specs.Prelude.{◌≡◌, ◌+◌, ◌^◌, ◌<◌, ◌≤◌, length, pos, neg_ℤ, if◌then◌else◌, ◌&&◌, int_le, Ok, Err, MatchResult};
+ghost use Rattle.lines.specs.Number.{max_digits, continued, AllDigits, minus, figures, width, valued, judged, number};
 
 use network::refusal::Refusal;
 
 /// The least and the greatest that a number may be.
+// kept: a std range of this kind is not Copy, and once it has been walked through it no longer contains its end.
 #[derive(Clone, Copy)]
 pub struct Range {
     pub low: i32,
     pub high: i32,
+}
+
+impl Range {
+    /// The numbers at most so far from zero.
+    pub fn around(far: u32) -> Range
+        requires { far < 2 ^ 31 }
+        ensures low { result.low ≡ neg_ℤ (pos far) }
+        ensures high { result.high ≡ pos far }
+    {
+        let high = far as i32;
+        Range { low: -high, high }
+    }
+
+    // Whether the value is neither below the least nor above the greatest.
+    fn contains(&self, value: i32) -> bool
+        ensures { result ≡ (int_le self.now.low value && int_le value self.now.high) }
+    {
+        (self.low..=self.high).contains(&value)
+    }
 }
 
 /// The most digits that a number may have.
@@ -19,77 +39,75 @@ pub fn number_at(bytes: &[u8], place: usize, range: Range) -> Result<(i32, usize
     requires { place + length bytes.now < 2 ^ 63 }
     ensures { MatchResult result (λ v. (number range.low range.high bytes.now place ≡ Ok v.0) × (v.1 ≡ width bytes.now) × (v.1 ≤ length bytes.now)) (λ e. number range.low range.high bytes.now place ≡ Err e) }
 {
-    let (negative, rest) = unsigned(bytes);
-    let n = run_len(rest);
-    let value = judged(negative, &rest[..n], range, place)?;
-    Ok((value, usize::from(negative) + n))
+    let numeral = Numeral::first_of(bytes, place);
+    let value = numeral.value_in(range)?;
+    Ok((value, numeral.width()))
 }
 
-// Whether a minus stands first, and what follows the sign.
-fn unsigned(bytes: &[u8]) -> (bool, &[u8])
-    ensures sign { result.0 ≡ minus bytes.now }
-    ensures rest { result.1.now ≡ bare bytes.now }
-    ensures len { length result.1.now + (if result.0 then 1 else 0) ≡ length bytes.now }
-{
-    match bytes {
-        [b'-', rest @ ..] => (true, rest),
-        _ => (false, bytes),
+// A sign or none, the digits that follow it, and the place of its first byte.
+#[derive(Clone, Copy)]
+struct Numeral<'a> {
+    negative: bool,
+    digits: &'a [u8],
+    place: usize,
+    ghost all_digits: { AllDigits digits.now },
+    ghost fits: { place + length digits.now < 2 ^ 63 },
+}
+
+impl<'a> Numeral<'a> {
+    // What stands first, as far as digits go.
+    fn first_of(bytes: &'a [u8], place: usize) -> Numeral<'a>
+        requires { place + length bytes.now < 2 ^ 63 }
+        ensures sign { result.negative ≡ minus bytes.now }
+        ensures digits { result.digits.now ≡ figures bytes.now }
+        ensures place { result.place ≡ place }
+    {
+        let negative = bytes.starts_with(b"-");
+        let unsigned = &bytes[usize::from(negative)..];
+        let len = unsigned.iter().take_while(|b| b.is_ascii_digit()).count();
+        Numeral {
+            negative,
+            digits: &unsigned[..len],
+            place,
+        }
     }
-}
 
-// How many digits stand first.
-fn run_len(bytes: &[u8]) -> usize
-    ensures value { result ≡ run bytes.now }
-    ensures bound { result ≤ length bytes.now }
-    ensures digits { AllDigits (take result bytes.now) }
-{
-    let mut n = 0;
-    while n < bytes.len() && bytes[n].is_ascii_digit() {
-        n += 1;
+    // How many bytes it takes.
+    fn width(&self) -> usize
+        ensures { result ≡ (if self.now.negative then 1 else 0) + length self.now.digits.now }
+    {
+        usize::from(self.negative) + self.digits.len()
     }
-    n
-}
 
-// What a number comes to, whose first byte is at `place`.
-fn judged(negative: bool, digits: &[u8], range: Range, place: usize) -> Result<i32, Refusal>
-    requires { (AllDigits digits.now) × (place < 2 ^ 63) }
-    ensures { result ≡ told negative digits.now range.low range.high place }
-{
-    match digits {
-        [] => Err(Refusal::Form(place + usize::from(negative))),
-        [b'0', ..] if negative => Err(Refusal::Form(place)),
-        [b'0', _, ..] => Err(Refusal::Form(place)),
-        _ if digits.len() > MAX_DIGITS => Err(Refusal::Number(place)),
-        _ => ranged(signed(negative, magnitude(digits)), range, place),
+    // What it comes to.
+    fn value_in(&self, range: Range) -> Result<i32, Refusal>
+        ensures { result ≡ judged self.now.negative self.now.digits.now range.low range.high self.now.place }
+    {
+        match self.digits {
+            [] => Err(Refusal::Form(self.place + usize::from(self.negative))),
+            [b'0', ..] if self.negative => Err(Refusal::Form(self.place)),
+            [b'0', _, ..] => Err(Refusal::Form(self.place)),
+            digits if digits.len() > MAX_DIGITS => Err(Refusal::Number(self.place)),
+            _ => {
+                let value = self.signed();
+                if range.contains(value) {
+                    Ok(value)
+                } else {
+                    Err(Refusal::Number(self.place))
+                }
+            }
+        }
     }
-}
 
-// The number that a few digits write.
-fn magnitude(digits: &[u8]) -> u32
-    requires { (length digits.now ≤ max_digits) × (AllDigits digits.now) }
-    ensures value { result ≡ continued 0 digits.now }
-    ensures bound { result < 10 ^ max_digits }
-{
-    let mut n = 0;
-    for d in digits {
-        n = n * 10 + u32::from(*d - b'0');
-    }
-    n
-}
-
-fn signed(negative: bool, n: u32) -> i32
-    requires { n < 10 ^ max_digits }
-    ensures { result ≡ valued negative n }
-{
-    if negative { -(n as i32) } else { n as i32 }
-}
-
-fn ranged(value: i32, range: Range, place: usize) -> Result<i32, Refusal>
-    ensures { result ≡ checked range.low range.high place value }
-{
-    if range.low <= value && value <= range.high {
-        Ok(value)
-    } else {
-        Err(Refusal::Number(place))
+    // The number that a few digits write, with the sign.
+    fn signed(&self) -> i32
+        requires { length self.now.digits.now ≤ max_digits }
+        ensures { result ≡ valued self.now.negative (continued 0 self.now.digits.now) }
+    {
+        let mut magnitude = 0;
+        for digit in self.digits {
+            magnitude = magnitude * 10 + i32::from(digit - b'0');
+        }
+        if self.negative { -magnitude } else { magnitude }
     }
 }

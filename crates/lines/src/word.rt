@@ -1,7 +1,6 @@
 // Words.
-ghost use Rattle.std.specs.Prelude.{◌≡◌, ℕ, ◌≤◌, List, ◌++◌, length, MatchOption, ◌≢◌, nat_eq};
-ghost use Rattle.std.specs.List.{common_prefix_len};
-ghost use Rattle.lines.specs.Word.{spelt, furthest as reach};
+ghost use Rattle.std.specs.Prelude.{◌≡◌, ℕ, ◌≤◌, List, ◌++◌, length, MatchOption, ◌≢◌};
+ghost use Rattle.lines.specs.Word.{spelt, agree, furthest as reach};
 
 /// The word that says which form a line has.
 #[derive(Clone, Copy)]
@@ -22,12 +21,25 @@ impl Word {
             Word::Arc => b"(arc ",
         }
     }
+
+    // How many bytes of a form agree with them at the front.
+    fn agreement(self, form: &[u8]) -> usize
+        ensures value { result ≡ agree self form.now }
+        ensures bound { result ≤ length form.now }
+    {
+        self.spelling()
+            .iter()
+            .zip(form)
+            .take_while(|(a, b)| a == b)
+            .count()
+    }
 }
 
 /// A form taken apart: its word, and what follows bracket, word and space.
 pub fn known(form: &[u8]) -> Option<(Word, &[u8])>
     ensures { MatchOption result ((w : Word) (rest : List ℕ) → form.now ≢ spelt w ++ rest) (λ k. form.now ≡ spelt k.0 ++ k.1.now) }
 {
+    // kept: slice patterns take bracket, word and rest of a form apart.
     match form {
         [b'(', b'n', b'e', b't', b' ', rest @ ..] => Some((Word::Net, rest)),
         [b'(', b's', b't', b'o', b'c', b'k', b' ', rest @ ..] => Some((Word::Stock, rest)),
@@ -41,21 +53,7 @@ pub fn furthest(form: &[u8], words: &[Word]) -> usize
     ensures value { result ≡ reach words.now form.now }
     ensures bound { result ≤ length form.now }
 {
-    let mut far: usize = 0;
-    for word in words {
-        far = far.max(agreement(form, word.spelling()));
-    }
-    far
-}
-
-// How many bytes agree at the front.
-fn agreement(form: &[u8], spelling: &[u8]) -> usize
-    ensures value { result ≡ common_prefix_len nat_eq spelling.now form.now }
-    ensures bound { result ≤ length form.now }
-{
-    let mut n = 0;
-    while n < spelling.len() && n < form.len() && spelling[n] == form[n] {
-        n += 1;
-    }
-    n
+    words
+        .iter()
+        .fold(0, |far, word| far.max(word.agreement(form)))
 }

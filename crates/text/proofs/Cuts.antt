@@ -12,7 +12,7 @@ use Rattle.network.specs.Roads.{Near, Ranged}
 use Rattle.network.specs.declared.road.Road.{Road}
 use Rattle.lines.specs.Line.{LineAt, NoLine}
 use Rattle.lines.specs.Number.{AllDigits}
-use Rattle.forms.proofs.Numerals.{own}
+use Rattle.lines.proofs.Figures.{own}
 use Rattle.text.specs.Consignment.{net_form, stock_form, arc_form, paired, ended, Sized, Stocked}
 
 -- bytes of one line

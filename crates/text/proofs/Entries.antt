@@ -1,24 +1,18 @@
 -- One entry more: whom entries name, and what stocks they give.
-use Rattle.std.proofs.Common.{◌≡◌, ℕ, ◌<◌, Bool, true, false, cond, ◌||◌, eqb, List, [], ◌∷◌, ◌++◌, length, get_or, set, ℤ, pos, sym, refl, ap, ◌∙◌, ⊎_elim, arith}
+use Rattle.std.proofs.Common.{◌≡◌, ℕ, ◌<◌, Bool, true, false, cond, ◌||◌, eqb, List, [], ◌∷◌, ◌++◌, length, get_or, set, ℤ, pos, Option, Some, None, is_some, sym, refl, ap, ◌∙◌, ⊎_elim, arith}
 use Rattle.std.specs.List.{AllByRecursion}
+use Rattle.std.proofs.Math.Bool.{or-true, or-false}
+use Rattle.std.proofs.lemmas.List.Recursion.{or_push}
 use Rattle.std.proofs.lemmas.List.{get_or-set_same, get_or-set_other}
 use Rattle.std.proofs.lemmas.Int.{ints}
 use Rattle.std.proofs.lemmas.Bool.{eq-eqb, ne_eqb, cond-true, cond-false, cases_eq, or_parts, or_from, true≢false}
 use Rattle.network.specs.Limits.{max_stock}
 use Rattle.network.specs.Roads.{Near}
+use Rattle.text.specs.Drafts.{stock_said}
 use Rattle.text.specs.Consignment.{named, stock_of, Once, Stocked}
 
-or_assoc : (a b c : Bool) → (a || (b || c)) ≡ ((a || b) || c)
-or_assoc true b c = refl
-or_assoc false b c = refl
-
 pub named_more : (es : List (ℕ × ℤ)) (s : ℕ × ℤ) (i : ℕ) → named (es ++ (s ∷ [])) i ≡ (named es i || eqb s.0 i)
-named_more [] s i = or_nil (eqb s.0 i)
-  where
-    or_nil : (b : Bool) → (b || false) ≡ b
-    or_nil true = refl
-    or_nil false = refl
-named_more (e ∷ es) s i = ap (λ b. eqb e.0 i || b) (named_more es s i) ∙ or_assoc (eqb e.0 i) (named es i) (eqb s.0 i)
+named_more es s i = or_push (λ l. named l i) (λ e. eqb e.0 i) refl (λ e l. refl) es s
 
 pub apart : (a b : ℕ) → eqb a b ≡ false → eqb b a ≡ false
 apart a b h = ne_eqb b a (λ e. true≢false (sym (eq-eqb a b (sym e)) ∙ h))
@@ -40,30 +34,22 @@ stock_other [] s i ne = cond-false (eqb s.0 i) _ _ (ne_eqb s.0 i (λ e. ne (sym 
 stock_other (e ∷ es) s i ne = ap (λ z. cond (eqb e.0 i) e.1 z) (stock_other es s i ne)
 
 -- rows that hold the entries hold one more
-pub stocks_more : (row : List ℤ) (es : List (ℕ × ℤ)) (s : ℕ × ℤ) (n : ℕ) → length row ≡ n → named es s.0 ≡ false → s.0 < n
-    → ((i : ℕ) → i < n → get_or row i (pos 0) ≡ stock_of es i) → (i : ℕ) → i < n → get_or (set row s.0 s.1) i (pos 0) ≡ stock_of (es ++ (s ∷ [])) i
+pub stocks_more : (row : List (Option ℤ)) (es : List (ℕ × ℤ)) (s : ℕ × ℤ) (n : ℕ) → length row ≡ n → named es s.0 ≡ false → s.0 < n
+    → ((i : ℕ) → i < n → stock_said (get_or row i None) ≡ stock_of es i) → (i : ℕ) → i < n → stock_said (get_or (set row s.0 (Some s.1)) i None) ≡ stock_of (es ++ (s ∷ [])) i
 stocks_more row es s n len free inside h i l =
     ⊎_elim
-    (λ e. ap (λ k. get_or (set row s.0 s.1) k (pos 0)) e ∙ get_or-set_same row s.0 s.1 (pos 0) (omega arith) ∙ sym (stock_same es s free) ∙ ap (stock_of (es ++ (s ∷ []))) (sym e))
-    (λ ne. get_or-set_other row s.0 i s.1 (pos 0) ne ∙ h i l ∙ sym (stock_other es s i ne))
+    (λ e. ap (λ k. stock_said (get_or (set row s.0 (Some s.1)) k None)) e ∙ ap stock_said (get_or-set_same row s.0 (Some s.1) None (omega arith)) ∙ sym (stock_same es s free) ∙ ap (stock_of (es ++ (s ∷ []))) (sym e))
+    (λ ne. ap stock_said (get_or-set_other row s.0 i (Some s.1) None ne) ∙ h i l ∙ sym (stock_other es s i ne))
     (cases_eq i s.0)
 
-or_right_false : (b : Bool) → (b || false) ≡ b
-or_right_false true = refl
-or_right_false false = refl
-
-or_right_true : (b : Bool) → (b || true) ≡ true
-or_right_true true = refl
-or_right_true false = refl
-
-pub marks_more : (row : List Bool) (es : List (ℕ × ℤ)) (s : ℕ × ℤ) (n : ℕ) → length row ≡ n → s.0 < n
-    → ((i : ℕ) → i < n → get_or row i false ≡ named es i) → (i : ℕ) → i < n → get_or (set row s.0 true) i false ≡ named (es ++ (s ∷ [])) i
+pub marks_more : (row : List (Option ℤ)) (es : List (ℕ × ℤ)) (s : ℕ × ℤ) (n : ℕ) → length row ≡ n → s.0 < n
+    → ((i : ℕ) → i < n → is_some (get_or row i None) ≡ named es i) → (i : ℕ) → i < n → is_some (get_or (set row s.0 (Some s.1)) i None) ≡ named (es ++ (s ∷ [])) i
 marks_more row es s n len inside h i l =
     ⊎_elim
-    (λ e. ap (λ k. get_or (set row s.0 true) k false) e ∙ get_or-set_same row s.0 true false (omega arith)
-    ∙ sym (named_more es s i ∙ ap (λ b. named es i || b) (eq-eqb s.0 i (sym e)) ∙ or_right_true (named es i)))
-    (λ ne. get_or-set_other row s.0 i true false ne ∙ h i l
-    ∙ sym (named_more es s i ∙ ap (λ b. named es i || b) (ne_eqb s.0 i (λ e. ne (sym e))) ∙ or_right_false (named es i)))
+    (λ e. ap (λ k. is_some (get_or (set row s.0 (Some s.1)) k None)) e ∙ ap is_some (get_or-set_same row s.0 (Some s.1) None (omega arith))
+    ∙ sym (named_more es s i ∙ ap (λ b. named es i || b) (eq-eqb s.0 i (sym e)) ∙ or-true (named es i)))
+    (λ ne. ap is_some (get_or-set_other row s.0 i (Some s.1) None ne) ∙ h i l
+    ∙ sym (named_more es s i ∙ ap (λ b. named es i || b) (ne_eqb s.0 i (λ e. ne (sym e))) ∙ or-false (named es i)))
     (cases_eq i s.0)
 
 -- each stock is within its limit

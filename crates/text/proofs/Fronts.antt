@@ -1,5 +1,5 @@
 -- How the front of a text grows by a line.
-use Rattle.std.proofs.Common.{◌≡◌, ℕ, ◌+◌, ◌<◌, ◌≤◌, ◌⊎◌, List, [], ◌∷◌, ◌++◌, length, take, drop, ℤ, IsErrAnd, Ok, Err, Result, sym, refl, ap, ◌∙◌, subst, inl, inr, append_assoc, append-nil, add_assoc, arith}
+use Rattle.std.proofs.Common.{◌≡◌, ℕ, ◌+◌, ◌<◌, ◌≤◌, ◌⊎◌, List, [], ◌∷◌, ◌++◌, length, take, drop, ℤ, IsErrAnd, Ok, Err, Result, sym, ap, ◌∙◌, subst, inl, inr, append_assoc, append-nil, add_assoc, arith}
 use Rattle.std.specs.List.{flat_map}
 use Rattle.std.proofs.ByRecursion.{All-push}
 use Rattle.std.proofs.lemmas.List.{take_more, take-append-drop, take-take, drop-take, flat_map_more, nil_from_length, length_push}
@@ -10,7 +10,7 @@ use Rattle.lines.specs.Line.{LineAt, NoLine}
 use Rattle.text.specs.declared.draft.Draft.{Draft}
 use Rattle.text.specs.Consignment.{net_form, stock_form, arc_form, ended, text_of}
 use Rattle.text.specs.Refused.{Begun, LineFault}
-use Rattle.text.specs.Drafts.{Holds, SameSizes, LineRead, a_stock, an_arc, LineTook, LinesTook, Completed, Stopped, no_end, bad_line}
+use Rattle.text.specs.Drafts.{Holds, LineRead, a_stock, an_arc, LineTook, LinesTook, Stopped, no_end, bad_line}
 use Rattle.text.proofs.Entries.{once_more}
 
 -- the text up to the end of a line
@@ -76,62 +76,44 @@ begun_more text n m es es' rs rs' place form at (an_arc room r is range fit e f)
 
 -- what a reader of lines knows at a place: the draft `d₀` that it began with has become `d`
 pub record Reading (text : List ℕ) (d₀ d : Draft) (place : ℕ) : Type 0 where
-  pub sizes : SameSizes d₀ d
+  pub sizes : d.sizes ≡ d₀.sizes
   pub entries : List (ℕ × ℤ)
   pub roads : List Road
-  pub begun : Begun text d.nodes d.arcs entries roads place
+  pub begun : Begun text d.sizes.nodes d.sizes.arcs entries roads place
   pub holds : Holds d entries roads
-
-pub reading_none : (text : List ℕ) (d : Draft) (place : ℕ) → Begun text d.nodes d.arcs [] [] place → Holds d [] [] → Reading text d d place
-reading_none text d place b h = record { sizes = record { nodes = refl; arcs = refl }; entries = []; roads = []; begun = b; holds = h }
 
 pub reading_more : (text : List ℕ) (d₀ d d' : Draft) (place : ℕ) (form : List ℕ) → LineAt text place form → LineTook d form place d' (Ok tt) → Reading text d₀ d place
     → Reading text d₀ d' (place + (length form + 1))
 reading_more text d₀ d d' place form at took h =
     let more = took.1 h.entries h.roads h.holds in
-    let b = begun_more text d.nodes d.arcs h.entries more.0 h.roads more.1 place form at more.2 h.begun in
+    let b = begun_more text d.sizes.nodes d.sizes.arcs h.entries more.0 h.roads more.1 place form at more.2 h.begun in
     record {
-      sizes = record { nodes = took.0.nodes ∙ h.sizes.nodes; arcs = took.0.arcs ∙ h.sizes.arcs };
+      sizes = took.0 ∙ h.sizes;
       entries = more.0;
       roads = more.1;
-      begun = subst (λ n. Begun text n d'.arcs more.0 more.1 (place + (length form + 1))) (sym took.0.nodes)
-          (subst (λ m. Begun text d.nodes m more.0 more.1 (place + (length form + 1))) (sym took.0.arcs) b);
+      begun = subst (λ k. Begun text k.nodes k.arcs more.0 more.1 (place + (length form + 1))) (sym took.0) b;
       holds = more.3;
     }
 
 -- sizes as they were
-resized : (text : List ℕ) (d₀ d : Draft) (e : Refusal) → SameSizes d₀ d → Stopped text d.nodes d.arcs e → Stopped text d₀.nodes d₀.arcs e
-resized text d₀ d e s h = subst (λ n. Stopped text n d₀.arcs e) s.nodes (subst (λ m. Stopped text d.nodes m e) s.arcs h)
+resized : (text : List ℕ) (d₀ d : Draft) (e : Refusal) → d.sizes ≡ d₀.sizes → Stopped text d.sizes.nodes d.sizes.arcs e → Stopped text d₀.sizes.nodes d₀.sizes.arcs e
+resized text d₀ d e s h = subst (λ k. Stopped text k.nodes k.arcs e) s h
 
 pub line_stops : (text : List ℕ) (d₀ d : Draft) (place : ℕ) (form : List ℕ) (e : Refusal) → LineAt text place form
-    → ((es : List (ℕ × ℤ)) (rs : List Road) → Holds d es rs → LineFault d.nodes d.arcs es rs form place e) → Reading text d₀ d place → Stopped text d₀.nodes d₀.arcs e
+    → ((es : List (ℕ × ℤ)) (rs : List Road) → Holds d es rs → LineFault d.sizes.nodes d.sizes.arcs es rs form place e) → Reading text d₀ d place → Stopped text d₀.sizes.nodes d₀.sizes.arcs e
 line_stops text d₀ d place form e at fault h =
     resized text d₀ d e h.sizes (bad_line h.entries h.roads place h.begun form at (fault h.entries h.roads h.holds))
 
-pub end_stops : (text : List ℕ) (d₀ d : Draft) (place : ℕ) (e : Refusal) → NoLine text place → (place < length text) ⊎ (d.count < d.arcs) → SaysAt e 10 (length text)
-    → Reading text d₀ d place → Stopped text d₀.nodes d₀.arcs e
+pub end_stops : (text : List ℕ) (d₀ d : Draft) (place : ℕ) (e : Refusal) → NoLine text place → (place < length text) ⊎ (length d.roads.items < d.sizes.arcs) → SaysAt e 10 (length text)
+    → Reading text d₀ d place → Stopped text d₀.sizes.nodes d₀.sizes.arcs e
 end_stops text d₀ d place e none (inl l) says h = resized text d₀ d e h.sizes (no_end h.entries h.roads place h.begun none (inl l) says)
 end_stops text d₀ d place e none (inr l) says h =
-    resized text d₀ d e h.sizes (no_end h.entries h.roads place h.begun none (inr (subst (λ k. k < d.arcs) h.holds.count_is l)) says)
+    resized text d₀ d e h.sizes (no_end h.entries h.roads place h.begun none (inr (subst (λ k. k < d.sizes.arcs) (ap length h.holds.roads_are) l)) says)
 
 pub past_end : (text : List ℕ) (place : ℕ) → length text ≤ place → NoLine text place
 past_end text place l k from to e = omega arith
 
-pub completed : (text : List ℕ) (d₀ d : Draft) (place : ℕ) → length text ≤ place → d.arcs ≤ d.count → Reading text d₀ d place → Completed text d
-completed text d₀ d place l full h =
-    let in_text = h.begun.inside in
-    let whole : place ≡ length text = omega arith in
-    let count = h.holds.count_is in
-    let few = h.begun.few in
-    record {
-      entries = h.entries;
-      roads = h.roads;
-      begun = subst (λ k. Begun text d.nodes d.arcs h.entries h.roads k) whole h.begun;
-      arcs = omega arith;
-      holds = h.holds;
-    }
-
 -- the exit of a `?`
-pub stops : (text : List ℕ) (d₀ d : Draft) (r : Result (Unit {0}) Refusal) (e : Refusal) → IsErrAnd r (λ y. y ≡ e) → Stopped text d₀.nodes d₀.arcs e → LinesTook text d₀ d r
+pub stops : (text : List ℕ) (d₀ d : Draft) (r : Result (Unit {0}) Refusal) (e : Refusal) → IsErrAnd r (λ y. y ≡ e) → Stopped text d₀.sizes.nodes d₀.sizes.arcs e → LinesTook text d₀ d r
 stops text d₀ d (Ok x) e h s = absurd h
-stops text d₀ d (Err y) e h s = subst (λ z. Stopped text d₀.nodes d₀.arcs z) (sym h) s
+stops text d₀ d (Err y) e h s = subst (λ z. Stopped text d₀.sizes.nodes d₀.sizes.arcs z) (sym h) s

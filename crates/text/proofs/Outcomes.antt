@@ -1,6 +1,7 @@
 -- What reading comes to at each exit.
-use Rattle.std.proofs.Common.{◌≡◌, ℕ, ◌≤◌, List, ◌++◌, length, take, drop, ℤ, pos, IsErrAnd, None, Ok, Err, Result, sym, refl, ap, ◌∙◌, subst, arith}
-use Rattle.std.proofs.lemmas.List.{take_all, length-take-le, get_or-take}
+use Rattle.std.proofs.Common.{◌≡◌, ℕ, ◌+◌, ◌<◌, ◌≤◌, List, [], ◌∷◌, ◌++◌, length, get_or, set, take, drop, map, ℤ, pos, IsErrAnd, Option, None, Ok, Err, Result, append_assoc, sym, refl, ap, ◌∙◌, subst, arith}
+use Rattle.std.proofs.lemmas.List.{take_all, take_more, drop_more, map-append, length-map, length-take-le, get_or-map, get_or-take}
+use Rattle.std.proofs.Math.Seq.{set-append_seam}
 use Rattle.network.specs.Limits.{max_text, max_stock}
 use Rattle.network.specs.Roads.{Near, Ranged}
 use Rattle.network.specs.Tested.{row_fault}
@@ -12,7 +13,7 @@ use Rattle.text.specs.declared.sizes.Sizes.{Sizes}
 use Rattle.text.specs.Consignment.{IsConsignment}
 use Rattle.text.specs.Refused.{Refused, no_end, bad_line}
 use Rattle.text.specs.Drafts as drafts
-use Rattle.text.specs.Drafts.{Holds, SameSizes, Completed, Stopped}
+use Rattle.text.specs.Drafts.{stock_said, Holds, Completed, Stopped}
 use Rattle.text.specs.Reader.{Taken, Answered}
 use Rattle.std.specs.List.{AllByRecursion}
 use Rattle.std.proofs.ByRecursion.{All-from_get_or}
@@ -30,8 +31,22 @@ pub refusal : (text : List ℕ) (road_row : List Road) (stock_row : List ℤ) (r
 refusal text road_row stock_row (Ok x) e h w = absurd h
 refusal text road_row stock_row (Err y) e h w = settled text road_row stock_row (Err y) road_row stock_row (subst (λ z. Refused text (length road_row) (length stock_row) z) (sym h) w, refl, refl)
 
+-- one stock more is copied
+pub copied_more : (said : List (Option ℤ)) (row now : List ℤ) (i n : ℕ) (z : ℤ) → i < n → n ≤ length said → i < length row → z ≡ stock_said (get_or (take n said) i None)
+    → now ≡ map stock_said (take i said) ++ drop i row → set now i z ≡ map stock_said (take (i + 1) said) ++ drop (i + 1) row
+copied_more said row now i n z l few room e h =
+    let front = map stock_said (take i said) in
+    let len : length front ≡ i = length-map (take i said) stock_said ∙ length-take-le i said (omega arith) in
+    let last : z ≡ stock_said (get_or said i None) = e ∙ ap stock_said (get_or-take n said i None l) in
+    ap (λ r. set r i z) (h ∙ ap (λ r. front ++ r) (drop_more row i (pos 0) room))
+    ∙ ap (λ k. set (front ++ (get_or row i (pos 0) ∷ drop (i + 1) row)) k z) (sym len)
+    ∙ set-append_seam front (get_or row i (pos 0)) (drop (i + 1) row) z
+    ∙ sym (append_assoc front (z ∷ []) (drop (i + 1) row))
+    ∙ ap (λ y. (front ++ (y ∷ [])) ++ drop (i + 1) row) last
+    ∙ ap (λ r. r ++ drop (i + 1) row) (sym (ap (map stock_said) (take_more said i None (omega arith)) ∙ map-append stock_said (take i said) (get_or said i None ∷ [])))
+
 -- the draft holds a consignment
-consigned : (text : List ℕ) (d : Draft) (c : Completed text d) → IsConsignment text d.nodes d.arcs (take d.nodes d.stocks) c.roads
+consigned : (text : List ℕ) (d : Draft) (c : Completed text d) → IsConsignment text d.sizes.nodes d.sizes.arcs (map stock_said (take d.sizes.nodes d.stocks)) c.roads
 consigned text d c =
     let b = c.begun in
     let few = d.nodes_few in
@@ -42,8 +57,8 @@ consigned text d c =
       is = sym (take_all (length text) text (omega arith)) ∙ b.front;
       fitting = b.fitting;
       arcs = c.arcs;
-      nodes = length-take-le d.nodes d.stocks (omega arith);
-      stock = λ i l. get_or-take d.nodes d.stocks i (pos 0) l ∙ c.holds.stock i (omega arith);
+      nodes = length-map (take d.sizes.nodes d.stocks) stock_said ∙ length-take-le d.sizes.nodes d.stocks (omega arith);
+      stock = λ i l. get_or-map stock_said (take d.sizes.nodes d.stocks) i None (pos 0) (omega (arith, length-take-le d.sizes.nodes d.stocks (omega arith))) ∙ ap stock_said (get_or-take d.sizes.nodes d.stocks i None l) ∙ c.holds.stock i (omega arith);
     }
 
 -- its rows pass the test of a table
@@ -58,25 +73,23 @@ rows_tested text n m stocks roads c =
     (All-from_get_or (Near max_stock) stocks (pos 0) (λ i h. subst (Near max_stock) (sym (c.stock i (omega arith))) (stock_near n c.entries i c.fitting.stocked)))
     (subst (λ k. AllByRecursion (Ranged k) roads) (sym c.nodes) c.fitting.ranged) c.fitting.passable
 
-pub taken : (text : List ℕ) (d₀ d : Draft) (n m : ℕ) (road_row road_row' : List Road) (stock_row stock_row' : List ℤ) → length text ≤ max_text → m ≤ length road_row → n ≤ length stock_row
-    → d₀.nodes ≡ n → d₀.arcs ≡ m → SameSizes d₀ d → Completed text d
-    → road_row' ≡ take d.count d.roads ++ drop d.count road_row → stock_row' ≡ take d.nodes d.stocks ++ drop d.nodes stock_row
-    → Taken text n m road_row road_row' stock_row stock_row'
-taken text d₀ d n m road_row road_row' stock_row stock_row' short p q en em sizes c er es =
-    let nodes : d.nodes ≡ n = sizes.nodes ∙ en in
-    let arcs : d.arcs ≡ m = sizes.arcs ∙ em in
-    let whole = subst (λ k. IsConsignment text k m (take d.nodes d.stocks) c.roads) nodes (subst (λ k. IsConsignment text d.nodes k (take d.nodes d.stocks) c.roads) arcs (consigned text d c)) in
-    let count : d.count ≡ m = c.holds.count_is ∙ c.arcs ∙ arcs in
-    record {
+pub taken : (text : List ℕ) (d₀ d : Draft) (s : Sizes) (road_row road_row' : List Road) (stock_row stock_row' : List ℤ) → length text ≤ max_text → s.arcs ≤ length road_row → s.nodes ≤ length stock_row
+    → d₀.sizes ≡ s → d.sizes ≡ d₀.sizes → Completed text d
+    → road_row' ≡ d.roads.items ++ drop (length d.roads.items) road_row → stock_row' ≡ map stock_said (take d.sizes.nodes d.stocks) ++ drop d.sizes.nodes stock_row
+    → Taken text s.nodes s.arcs road_row road_row' stock_row stock_row'
+taken text d₀ d s road_row road_row' stock_row stock_row' short p q first same c er es =
+    let whole = consigned text d c in
+    let sizes : d.sizes ≡ s = same ∙ first in
+    subst (λ k. Taken text k.nodes k.arcs road_row road_row' stock_row stock_row') sizes (record {
       short = short;
-      road_room = p;
-      stock_room = q;
-      stocks = take d.nodes d.stocks;
+      road_room = subst (λ k. k.arcs ≤ length road_row) (sym sizes) p;
+      stock_room = subst (λ k. k.nodes ≤ length stock_row) (sym sizes) q;
+      stocks = map stock_said (take d.sizes.nodes d.stocks);
       roads = c.roads;
       consignment = whole;
-      tested = rows_tested text n m (take d.nodes d.stocks) c.roads whole;
+      tested = rows_tested text d.sizes.nodes d.sizes.arcs (map stock_said (take d.sizes.nodes d.stocks)) c.roads whole;
       filled = record {
-        roads_is = er ∙ ap (λ l. l ++ drop d.count road_row) c.holds.roads_are ∙ ap (λ k. c.roads ++ drop k road_row) count;
-        stocks_is = es ∙ ap (λ k. take d.nodes d.stocks ++ drop k stock_row) nodes;
+        roads_is = er ∙ ap (λ l. l ++ drop (length d.roads.items) road_row) c.holds.roads_are ∙ ap (λ k. c.roads ++ drop k road_row) (ap length c.holds.roads_are ∙ c.arcs);
+        stocks_is = es;
       };
-    }
+    })

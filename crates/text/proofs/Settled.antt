@@ -22,7 +22,7 @@ use Rattle.text.proofs.Cuts.{Unbroken, net_unbroken, line_is, line_there, line_p
 use Rattle.text.proofs.Meets.{Entry, form_of, good_unbroken, Next, next_good, next_judged, before, equal, after, meeting, begun_head}
 
 ok_not_err : {X : Type 0} (x : X) (e : Refusal) → ◌≡◌ {A = Result X Refusal} (Ok x) (Err e) → ⊥
-ok_not_err x e h = let z : ◌≡◌ {A = ℕ} 0 1 = cc in omega arith
+ok_not_err x e h = cc
 
 err_one : {X : Type 0} (e f : Refusal) → ◌≡◌ {A = Result X Refusal} (Err e) (Err f) → e ≡ f
 err_one e f h = cc

@@ -1,5 +1,5 @@
 -- What a draft holds of a consignment that is being read.
-use Rattle.std.specs.Prelude.{◌≡◌, ℕ, ◌+◌, ◌<◌, true, false, ◌⊎◌, List, [], ◌∷◌, ◌++◌, length, take, ℤ, pos, Ok, Err, Result, slice_index_or, slice_set}
+use Rattle.std.specs.Prelude.{◌≡◌, ℕ, ◌<◌, true, false, ◌⊎◌, List, [], ◌∷◌, ◌++◌, length, ℤ, pos, Option, Some, None, Ok, Err, Result, is_some, unwrap_or, slice_index_or, slice_set}
 use Rattle.network.specs.Limits.{max_nodes}
 use Rattle.network.specs.Refusals.{SaysAt}
 use Rattle.network.specs.Roads.{Ranged, Passable}
@@ -12,48 +12,42 @@ use Rattle.text.specs.Consignment.{stock_form, arc_form, Stocked, named, stock_o
 use Rattle.lines.specs.Line.{LineAt, NoLine}
 use Rattle.text.specs.Refused.{LineFault, Begun}
 
+-- the stock that a draft says a node has: 0 where no line names the node
+abbrev pub stock_said : Option ℤ → ℤ
+stock_said said = unwrap_or said (pos 0)
+
 -- the draft holds these stocks and roads
 pub record Holds (d : Draft) (entries : List (ℕ × ℤ)) (roads : List Road) : Type 0 where
-  pub stock : (i : ℕ) → i < max_nodes → slice_index_or d.stocks i (pos 0) ≡ stock_of entries i
-  pub marks : (i : ℕ) → i < max_nodes → slice_index_or d.named i false ≡ named entries i
-  pub roads_are : take d.count d.roads ≡ roads
-  pub count_is : d.count ≡ length roads
-
--- the same sizes
-pub record SameSizes (d d' : Draft) : Type 0 where
-  pub nodes : d'.nodes ≡ d.nodes
-  pub arcs : d'.arcs ≡ d.arcs
+  pub stock : (i : ℕ) → i < max_nodes → stock_said (slice_index_or d.stocks i None) ≡ stock_of entries i
+  pub marks : (i : ℕ) → i < max_nodes → is_some (slice_index_or d.stocks i None) ≡ named entries i
+  pub roads_are : d.roads.items ≡ roads
 
 -- one stock more
 pub record StockPut (d : Draft) (s : ℕ × ℤ) (d' : Draft) : Type 0 where
-  pub stocks : d'.stocks ≡ slice_set d.stocks s.0 s.1
-  pub marks : d'.named ≡ slice_set d.named s.0 true
-  pub roads : d'.roads ≡ d.roads
-  pub count : d'.count ≡ d.count
-  pub sizes : SameSizes d d'
+  pub stocks : d'.stocks ≡ slice_set d.stocks s.0 (Some s.1)
+  pub roads : d'.roads.items ≡ d.roads.items
+  pub sizes : d'.sizes ≡ d.sizes
 
 -- one road more
 pub record RoadPut (d : Draft) (r : Road) (d' : Draft) : Type 0 where
   pub stocks : d'.stocks ≡ d.stocks
-  pub marks : d'.named ≡ d.named
-  pub roads : d'.roads ≡ slice_set d.roads d.count r
-  pub count : d'.count ≡ d.count + 1
-  pub sizes : SameSizes d d'
+  pub roads : d'.roads.items ≡ d.roads.items ++ (r ∷ [])
+  pub sizes : d'.sizes ≡ d.sizes
 
 -- what became of the bytes of a stock at `start`, in the line at `place`
 abbrev pub StockTook : Draft → List ℕ → ℕ → ℕ → Draft → Result (Unit {0}) Refusal → Type 0
 StockTook d bs start place d' (Ok u) =
-    (s : ℕ × ℤ) × Scanned (stock_items d.nodes) bs start (Ok (stock_numbers s)) × (s.0 < d.nodes) × (slice_index_or d.named s.0 false ≡ false) × StockPut d s d'
+    (s : ℕ × ℤ) × Scanned (stock_items d.sizes.nodes) bs start (Ok (stock_numbers s)) × (s.0 < d.sizes.nodes) × (is_some (slice_index_or d.stocks s.0 None) ≡ false) × StockPut d s d'
 StockTook d bs start place d' (Err e) =
-    Scanned (stock_items d.nodes) bs start (Err e)
-    ⊎ ((s : ℕ × ℤ) × Scanned (stock_items d.nodes) bs start (Ok (stock_numbers s)) × (s.0 < d.nodes) × (slice_index_or d.named s.0 false ≡ true) × SaysAt e 13 place)
+    Scanned (stock_items d.sizes.nodes) bs start (Err e)
+    ⊎ ((s : ℕ × ℤ) × Scanned (stock_items d.sizes.nodes) bs start (Ok (stock_numbers s)) × (s.0 < d.sizes.nodes) × (is_some (slice_index_or d.stocks s.0 None) ≡ true) × SaysAt e 13 place)
 
 -- what became of the bytes of an arc
 abbrev pub RoadTook : Draft → List ℕ → ℕ → ℕ → Draft → Result (Unit {0}) Refusal → Type 0
-RoadTook d bs start place d' (Ok u) = (r : Road) × Scanned (arc_items d.nodes) bs start (Ok (road_numbers r)) × Passable r × RoadPut d r d'
+RoadTook d bs start place d' (Ok u) = (r : Road) × Scanned (arc_items d.sizes.nodes) bs start (Ok (road_numbers r)) × Passable r × RoadPut d r d'
 RoadTook d bs start place d' (Err e) =
-    Scanned (arc_items d.nodes) bs start (Err e)
-    ⊎ ((r : Road) × Scanned (arc_items d.nodes) bs start (Ok (road_numbers r)) × (Passable r → ⊥) × SaysAt e 12 place)
+    Scanned (arc_items d.sizes.nodes) bs start (Err e)
+    ⊎ ((r : Road) × Scanned (arc_items d.sizes.nodes) bs start (Ok (road_numbers r)) × (Passable r → ⊥) × SaysAt e 12 place)
 
 -- reading one more line leads from these stocks and roads to those
 pub data LineRead (n m : ℕ) (entries : List (ℕ × ℤ)) (roads : List Road) (form : List ℕ) (entries' : List (ℕ × ℤ)) (roads' : List Road) : Type 0 where
@@ -65,17 +59,17 @@ pub data LineRead (n m : ℕ) (entries : List (ℕ × ℤ)) (roads : List Road) 
 -- what became of a line
 abbrev pub LineTook : Draft → List ℕ → ℕ → Draft → Result (Unit {0}) Refusal → Type 0
 LineTook d form place d' (Ok u) =
-    SameSizes d d' × ((entries : List (ℕ × ℤ)) (roads : List Road) → Holds d entries roads
-    → (entries' : List (ℕ × ℤ)) × (roads' : List Road) × LineRead d.nodes d.arcs entries roads form entries' roads' × Holds d' entries' roads')
+    (d'.sizes ≡ d.sizes) × ((entries : List (ℕ × ℤ)) (roads : List Road) → Holds d entries roads
+    → (entries' : List (ℕ × ℤ)) × (roads' : List Road) × LineRead d.sizes.nodes d.sizes.arcs entries roads form entries' roads' × Holds d' entries' roads')
 LineTook d form place d' (Err e) =
-    (entries : List (ℕ × ℤ)) (roads : List Road) → Holds d entries roads → LineFault d.nodes d.arcs entries roads form place e
+    (entries : List (ℕ × ℤ)) (roads : List Road) → Holds d entries roads → LineFault d.sizes.nodes d.sizes.arcs entries roads form place e
 
 -- the lines from `place` on complete a consignment, which the draft then holds
 pub record Completed (text : List ℕ) (d : Draft) : Type 0 where
   pub entries : List (ℕ × ℤ)
   pub roads : List Road
-  pub begun : Begun text d.nodes d.arcs entries roads (length text)
-  pub arcs : length roads ≡ d.arcs
+  pub begun : Begun text d.sizes.nodes d.sizes.arcs entries roads (length text)
+  pub arcs : length roads ≡ d.sizes.arcs
   pub holds : Holds d entries roads
 
 -- or have a first fault
@@ -86,5 +80,5 @@ pub data Stopped (text : List ℕ) (n m : ℕ) (e : Refusal) : Type 0 where
       → LineFault n m entries roads form place e → Stopped text n m e
 
 abbrev pub LinesTook : List ℕ → Draft → Draft → Result (Unit {0}) Refusal → Type 0
-LinesTook text d d' (Ok u) = SameSizes d d' × Completed text d'
-LinesTook text d d' (Err e) = Stopped text d.nodes d.arcs e
+LinesTook text d d' (Ok u) = (d'.sizes ≡ d.sizes) × Completed text d'
+LinesTook text d d' (Err e) = Stopped text d.sizes.nodes d.sizes.arcs e

@@ -47,6 +47,6 @@ pub record Answered (text : List ℕ) (road_row : List Road) (stock_row : List �
   pub refuses : Refuses text road_row stock_row r
 
 -- what the first line says, or what is wrong with it
-abbrev pub FirstRead : List ℕ → Result (ℕ × ℕ) Refusal → Type 0
-FirstRead form (Ok v) = (form ≡ net_form v.0 v.1) × Sized v.0 v.1
+abbrev pub FirstRead : List ℕ → Result Sizes Refusal → Type 0
+FirstRead form (Ok s) = (form ≡ net_form s.nodes s.arcs) × Sized s.nodes s.arcs
 FirstRead form (Err e) = FirstFault form e

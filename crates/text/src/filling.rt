@@ -1,106 +1,73 @@
 // Filling a draft line by line.
-ghost use Rattle.std.specs.Prelude.{◌≡◌, ℕ, ◌+◌, ◌^◌, ◌<◌, ◌≤◌, [], ◌++◌, length};
-ghost use Rattle.network.specs.Limits.{max_nodes, max_arcs, max_text};
-ghost use Rattle.network.specs.Refusals.{SaysAt};
-ghost use Rattle.lines.specs.Word.{spelt, furthest as reach};
+ghost use Rattle.std.specs.Prelude.{◌≡◌, ◌<◌, ◌≤◌, [], length};
+ghost use Rattle.arrayvec.specs.ArrayVec.{array_vec_len};
+ghost use Rattle.network.specs.Limits.{max_text};
+ghost use Rattle.text.specs.Consignment.{Sized};
 ghost use Rattle.text.specs.Refused.{open_words, Begun};
 ghost use Rattle.text.specs.Drafts.{Holds, StockTook, RoadTook, LineTook, LinesTook};
 
 use crate::draft::Draft;
-use forms::form::{arc, passable, stock};
+use crate::sizes::Sizes;
+use arrayvec::ArrayVec;
+use forms::form::{arc, stock};
+use forms::rest::Cursor;
 use lines::line::line;
-use lines::word::{Word, furthest, known};
-use network::limits::{MAX_ARCS, MAX_NODES};
+use lines::word::Word;
+use network::limits::MAX_NODES;
 use network::refusal::Refusal;
-use network::road::Road;
 
 impl Draft {
     /// An empty draft of these sizes.
-    pub fn new(nodes: u32, arcs: u32) -> Draft
-        requires { (0 < nodes) × ((nodes ≤ max_nodes) × (arcs ≤ max_arcs)) }
-        ensures sizes { (result.nodes ≡ nodes) × (result.arcs ≡ arcs) }
+    pub fn new(sizes: Sizes) -> Draft
+        requires { Sized sizes.nodes sizes.arcs }
+        ensures sizes { result.sizes ≡ sizes }
         ensures empty { Holds result [] [] }
     {
-        let none = Road {
-            tail: 0,
-            head: 0,
-            least: 0,
-            most: 0,
-            first: 0,
-            second: 0,
-        };
         Draft {
-            nodes,
-            arcs,
-            stocks: [0; MAX_NODES],
-            named: [false; MAX_NODES],
-            roads: [none; MAX_ARCS],
-            count: 0,
+            sizes,
+            stocks: [None; MAX_NODES],
+            roads: ArrayVec::new(),
         }
     }
 
     /// Reads all lines of a text from `start` on, where the first line ends.
     pub fn take_lines(&mut self, text: &[u8], start: usize) -> Result<(), Refusal>
         requires short { length text.now ≤ max_text }
-        requires begun { Begun text.now self.old.nodes self.old.arcs [] [] start }
+        requires begun { Begun text.now self.old.sizes.nodes self.old.sizes.arcs [] [] start }
         requires empty { Holds self.old [] [] }
         ensures { LinesTook text.now self.old self.new result }
     {
         let mut place = start;
+        // kept: an iterator over lines would hold the same text and place, and say each line of this loop in its `next`.
         while place < text.len() {
-            let form = line(text, place)?;
-            self.take(form, place)?;
-            place += form.len() + 1;
+            let bytes = line(text, place)?;
+            self.take(Cursor { bytes, place })?;
+            place += bytes.len() + 1;
         }
-        if self.count < self.arcs as usize {
+        if self.roads.len() < self.sizes.arcs {
             return Err(Refusal::Form(text.len()));
         }
         Ok(())
     }
 
-    // Takes the line at `place`.
-    fn take(&mut self, form: &[u8], place: usize) -> Result<(), Refusal>
-        requires { place + length form.now < 2 ^ 62 }
-        ensures { LineTook self.old form.now place self.new result }
+    // Takes a line.
+    fn take(&mut self, line: Cursor<'_>) -> Result<(), Refusal>
+        ensures { LineTook self.old line.entry.bytes.now line.entry.place self.new result }
     {
-        match known(form) {
-            Some((word, rest)) => self.take_known(form, word, rest, place),
-            None => Err(self.no_word(form, place)),
+        match line.word() {
+            Some((Word::Stock, rest)) if self.roads.is_empty() => self.take_stock(rest, line.place),
+            Some((Word::Arc, rest)) if self.roads.len() < self.sizes.arcs => {
+                self.take_arc(rest, line.place)
+            }
+            _ => Err(line.no_word(self.open_words())),
         }
-    }
-
-    // Takes the line at `place`, whose word is `word`, with `rest` after it.
-    fn take_known(
-        &mut self,
-        form: &[u8],
-        word: Word,
-        rest: &[u8],
-        place: usize,
-    ) -> Result<(), Refusal>
-        requires { (place + length form.now < 2 ^ 62) × (form.now ≡ spelt word ++ rest.now) }
-        ensures { LineTook self.old form.now place self.new result }
-    {
-        let start = place + (form.len() - rest.len());
-        match word {
-            Word::Stock if self.count == 0 => self.take_stock(rest, start, place),
-            Word::Arc if self.count < self.arcs as usize => self.take_arc(rest, start, place),
-            _ => Err(self.no_word(form, place)),
-        }
-    }
-
-    // The fault of a line that begins with no open word: at the first byte that fits none.
-    fn no_word(&self, form: &[u8], place: usize) -> Refusal
-        requires { place + length form.now < 2 ^ 62 }
-        ensures { SaysAt result 10 (place + reach (open_words self.now.arcs self.now.count) form.now) }
-    {
-        Refusal::Form(place + furthest(form, self.open_words()))
     }
 
     // The words that may begin the next line.
     fn open_words(&self) -> &'static [Word]
-        ensures { result.now ≡ open_words self.now.arcs self.now.count }
+        ensures { result.now ≡ open_words self.now.sizes.arcs (array_vec_len self.now.roads) }
     {
-        match (self.count == 0, self.count < self.arcs as usize) {
+        match (self.roads.is_empty(), self.roads.len() < self.sizes.arcs) {
             (true, true) => &[Word::Stock, Word::Arc],
             (true, false) => &[Word::Stock],
             (false, true) => &[Word::Arc],
@@ -108,33 +75,29 @@ impl Draft {
         }
     }
 
-    // Takes a stock from `bytes`, which stand at `start` in the line at `place`.
-    fn take_stock(&mut self, bytes: &[u8], start: usize, place: usize) -> Result<(), Refusal>
-        requires { start + length bytes.now < 2 ^ 63 }
-        ensures { StockTook self.old bytes.now start place self.new result }
+    // Takes a stock from what follows the word of the line at `place`.
+    fn take_stock(&mut self, rest: Cursor<'_>, place: usize) -> Result<(), Refusal>
+        ensures { StockTook self.old rest.entry.bytes.now rest.entry.place place self.new result }
     {
-        let (node, amount) = stock(bytes, start, self.nodes)?;
+        let (node, amount) = stock(rest, self.sizes.nodes as u32)?;
         let i = node as usize;
-        if self.named[i] {
+        if self.stocks[i].is_some() {
             return Err(Refusal::NamedTwice(place));
         }
-        self.named[i] = true;
-        self.stocks[i] = amount;
+        self.stocks[i] = Some(amount);
         Ok(())
     }
 
-    // Takes an arc from `bytes`, which stand at `start` in the line at `place`.
-    fn take_arc(&mut self, bytes: &[u8], start: usize, place: usize) -> Result<(), Refusal>
-        requires fits { start + length bytes.now < 2 ^ 63 }
-        requires room { self.old.count < self.old.arcs }
-        ensures { RoadTook self.old bytes.now start place self.new result }
+    // Takes an arc from what follows the word of the line at `place`.
+    fn take_arc(&mut self, rest: Cursor<'_>, place: usize) -> Result<(), Refusal>
+        requires { array_vec_len self.old.roads < self.old.sizes.arcs }
+        ensures { RoadTook self.old rest.entry.bytes.now rest.entry.place place self.new result }
     {
-        let road = arc(bytes, start, self.nodes)?;
-        if !passable(road) {
+        let road = arc(rest, self.sizes.nodes as u32)?;
+        if !road.is_passable() {
             return Err(Refusal::Impassable(place));
         }
-        self.roads[self.count] = road;
-        self.count += 1;
+        self.roads.push(road);
         Ok(())
     }
 }

@@ -1,16 +1,16 @@
 // Reading a whole text.
-ghost use Rattle.std.specs.Prelude.{◌≡◌, ℕ, ◌+◌, ◌<◌, ◌≤◌, [], ◌∷◌, ◌++◌, length, take, drop};
+ghost use Rattle.std.specs.Prelude.{◌≡◌, ◌≤◌, ◌++◌, length, take, drop, map};
 ghost use Rattle.network.specs.Limits.{max_text};
-ghost use Rattle.network.specs.Refusals.{SaysAt};
-ghost use Rattle.lines.specs.Word.{spelt, furthest as reach};
-ghost use Rattle.lines.specs.declared.word.Word.TheVariants.{Net};
+ghost use Rattle.arrayvec.specs.ArrayVec.{array_vec_len};
 ghost use Rattle.text.specs.Reader.{Answered, FirstRead};
+ghost use Rattle.text.specs.Drafts.{stock_said};
 
 use crate::draft::Draft;
 use crate::sizes::Sizes;
 use forms::form::net;
+use forms::rest::Cursor;
 use lines::line::line;
-use lines::word::{Word, furthest, known};
+use lines::word::Word;
 use network::limits::MAX_TEXT;
 use network::refusal::Refusal;
 use network::road::Road;
@@ -26,59 +26,50 @@ pub fn read(text: &[u8], roads: &mut [Road], stocks: &mut [i32]) -> Result<Sizes
         return Err(Refusal::TextSize);
     }
     let form = line(text, 0)?;
-    let (nodes, arcs) = first_line(form)?;
-    if roads.len() < arcs as usize || stocks.len() < nodes as usize {
+    let sizes = first_line(form)?;
+    if roads.len() < sizes.arcs || stocks.len() < sizes.nodes {
         return Err(Refusal::TextRows);
     }
-    let mut draft = Draft::new(nodes, arcs);
+    let mut draft = Draft::new(sizes);
     draft.take_lines(text, form.len() + 1)?;
     draft.copy_into(roads, stocks);
-    Ok(Sizes {
-        nodes: nodes as usize,
-        arcs: arcs as usize,
-    })
+    Ok(sizes)
 }
 
 // The numbers of nodes and arcs that the first line names.
-fn first_line(form: &[u8]) -> Result<(u32, u32), Refusal>
+fn first_line(form: &[u8]) -> Result<Sizes, Refusal>
     requires { length form.now ≤ max_text }
     ensures { FirstRead form.now result }
 {
-    match known(form) {
-        Some((word, rest)) => first_known(form, word, rest),
-        None => Err(no_net(form)),
+    let line = Cursor {
+        bytes: form,
+        place: 0,
+    };
+    match line.word() {
+        Some((Word::Net, rest)) => {
+            let (nodes, arcs) = net(rest)?;
+            Ok(Sizes {
+                nodes: nodes as usize,
+                arcs: arcs as usize,
+            })
+        }
+        _ => Err(line.no_word(&[Word::Net])),
     }
-}
-
-// The same of a line whose word is `word`, with `rest` after it.
-fn first_known(form: &[u8], word: Word, rest: &[u8]) -> Result<(u32, u32), Refusal>
-    requires { (length form.now ≤ max_text) × (form.now ≡ spelt word ++ rest.now) }
-    ensures { FirstRead form.now result }
-{
-    match word {
-        Word::Net => net(rest, form.len() - rest.len()),
-        Word::Stock | Word::Arc => Err(no_net(form)),
-    }
-}
-
-// The fault of a first line with another word: at the first byte that does not fit.
-fn no_net(form: &[u8]) -> Refusal
-    ensures { SaysAt result 10 (reach (Net ∷ []) form.now) }
-{
-    Refusal::Form(furthest(form, &[Word::Net]))
 }
 
 impl Draft {
     // Copies what the draft holds to the front of the rows.
     fn copy_into(&self, roads: &mut [Road], stocks: &mut [i32])
-        requires roads { self.now.count ≤ length roads.old }
-        requires stocks { self.now.nodes ≤ length stocks.old }
-        ensures roads { roads.new ≡ take self.now.count self.now.roads ++ drop self.now.count roads.old }
-        ensures stocks { stocks.new ≡ take self.now.nodes self.now.stocks ++ drop self.now.nodes stocks.old }
+        requires roads { array_vec_len self.now.roads ≤ length roads.old }
+        requires stocks { self.now.sizes.nodes ≤ length stocks.old }
+        ensures roads { roads.new ≡ self.now.roads.items ++ drop (array_vec_len self.now.roads) roads.old }
+        ensures stocks { stocks.new ≡ map stock_said (take self.now.sizes.nodes self.now.stocks) ++ drop self.now.sizes.nodes stocks.old }
     {
-        let arcs = self.count;
-        let nodes = self.nodes as usize;
-        roads[0..arcs].copy_from_slice(&self.roads[0..arcs]);
-        stocks[0..nodes].copy_from_slice(&self.stocks[0..nodes]);
+        roads[..self.roads.len()].copy_from_slice(self.roads.as_slice());
+        let nodes = self.sizes.nodes;
+        // kept: a `zip` with `stocks.iter_mut()` gave no proof, since its loop has no name for the row that the slots write.
+        for (i, stock) in self.stocks[..nodes].iter().enumerate() {
+            stocks[i] = stock.unwrap_or(0);
+        }
     }
 }

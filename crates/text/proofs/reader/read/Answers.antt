@@ -1,53 +1,40 @@
 use Rattle.std.proofs.Common.{refl, inl, inr}
-use Rattle.text.specs.Refused.{too_long, no_first, bad_first, short_rows}
-use Rattle.text.proofs.First.{begun_first, begun_draft, stopped_draft}
+use Rattle.text.specs.Refused.{no_first, bad_first, short_rows}
+use Rattle.text.proofs.First.{begun_first, stopped_draft}
 use Rattle.text.proofs.Outcomes.{later, refusal, taken}
 use Rattle.text.proofs.Settled.{settled}
 use Rattle.text.proofs.reader.read.Goals as goal
-use Rattle.text.proofs.reader.read.Goals.{then-roads-arcs-via-then-roads-arcs, then-roads-arcs-via-else-roads-arcs+then-stocks-nodes}
-
-pub returns-then-text-gt-MAX_TEXT : goal.returns-then-text-gt-MAX_TEXT
-returns-then-text-gt-MAX_TEXT c = settled _ _ _ _ _ _ (too_long c.if-text-gt-MAX_TEXT.true (refl, refl), refl, refl)
+use Rattle.text.proofs.reader.read.Goals.{then-roads-sizes-via-then-roads-sizes, then-roads-sizes-via-else-roads-sizes+then-stocks-sizes}
 
 pub returns-in_err-form : goal.returns-in_err-form
 returns-in_err-form c =
     let p = c.in_err-form.ensures in
     refusal c.args.text.now c.args.roads.now c.args.stocks.now c.from_residual.result _ c.from_residual.ensures.1 (no_first c.if-text-gt-MAX_TEXT.false p.1 p.0)
 
-pub returns-in_err-nodes : goal.returns-in_err-nodes
-returns-in_err-nodes c = refusal c.args.text.now c.args.roads.now c.args.stocks.now c.from_residual-in_err-nodes.result _ c.from_residual-in_err-nodes.ensures.1
-    (bad_first c.if-text-gt-MAX_TEXT.false c.in_ok-form.form.now c.in_ok-form.ensures c.in_err-nodes.ensures)
+pub returns-in_err-sizes : goal.returns-in_err-sizes
+returns-in_err-sizes c = refusal c.args.text.now c.args.roads.now c.args.stocks.now c.from_residual-in_err-sizes.result _ c.from_residual-in_err-sizes.ensures.1
+    (bad_first c.if-text-gt-MAX_TEXT.false c.in_ok-form.form.now c.in_ok-form.ensures c.in_err-sizes.ensures)
 
-pub returns-then-roads-arcs : goal.returns-then-roads-arcs
-returns-then-roads-arcs c =
-    let f = c.in_ok-nodes.ensures in
+pub returns-then-roads-sizes : goal.returns-then-roads-sizes
+returns-then-roads-sizes c =
+    let f = c.in_ok-sizes.ensures in
     settled _ _ _ _ _ _ (
-      short_rows c.if-text-gt-MAX_TEXT.false c.in_ok-nodes.nodes c.in_ok-nodes.arcs _
+      short_rows c.if-text-gt-MAX_TEXT.false _ _ _
           (begun_first c.args.text.now c.in_ok-form.form.now _ _ c.in_ok-form.ensures f.0 f.1)
-          (elim c.then-roads-arcs.branch [ then-roads-arcs-via-then-roads-arcs w ↦ inl w.if-roads-arcs.true | then-roads-arcs-via-else-roads-arcs+then-stocks-nodes w ↦ inr w.if-stocks-nodes.true ])
+          (elim c.then-roads-sizes.branch [ then-roads-sizes-via-then-roads-sizes w ↦ inl w.if-roads-sizes.true | then-roads-sizes-via-else-roads-sizes+then-stocks-sizes w ↦ inr w.if-stocks-sizes.true ])
           (refl, refl),
       refl,
       refl,
     )
 
-pub take_lines-requires : goal.take_lines-requires
-take_lines-requires c =
-    let f = c.in_ok-nodes.ensures in
-    record {
-      short = c.if-text-gt-MAX_TEXT.false;
-      begun = begun_draft c.args.text.now c.in_ok-form.form.now c.in_ok-nodes.nodes c.in_ok-nodes.arcs c.new-draft.result c.new-draft.ensures.sizes
-          (begun_first c.args.text.now c.in_ok-form.form.now _ _ c.in_ok-form.ensures f.0 f.1);
-      empty = c.new-draft.ensures.empty;
-    }
-
 pub returns-in_err-take_lines : goal.returns-in_err-take_lines
 returns-in_err-take_lines c = refusal c.args.text.now c.args.roads.now c.args.stocks.now c.from_residual-in_err-take_lines.result _ c.from_residual-in_err-take_lines.ensures.1
-    (later c.args.text.now _ _ _ _ _ c.if-text-gt-MAX_TEXT.false c.if-roads-arcs.false c.if-stocks-nodes.false
-    (stopped_draft c.args.text.now c.new-draft.result c.in_ok-nodes.nodes c.in_ok-nodes.arcs _ c.new-draft.ensures.sizes c.in_err-take_lines.ensures))
+    (later c.args.text.now _ _ _ _ _ c.if-text-gt-MAX_TEXT.false c.if-roads-sizes.false c.if-stocks-sizes.false
+    (stopped_draft c.args.text.now c.new-draft.result c.in_ok-sizes.sizes _ c.new-draft.ensures.sizes c.in_err-take_lines.ensures))
 
 pub returns : goal.returns
 returns c =
     let done = c.in_ok-take_lines.ensures in
     settled c.args.text.now c.args.roads.now c.args.stocks.now _ _ _
-    (taken c.args.text.now c.new-draft.result c.take_lines.new.self c.in_ok-nodes.nodes c.in_ok-nodes.arcs c.args.roads.now _ c.args.stocks.now _
-    c.if-text-gt-MAX_TEXT.false c.if-roads-arcs.false c.if-stocks-nodes.false c.new-draft.ensures.sizes.0 c.new-draft.ensures.sizes.1 done.0 done.1 c.copy_into.ensures.roads c.copy_into.ensures.stocks)
+    (taken c.args.text.now c.new-draft.result c.take_lines.new.self c.in_ok-sizes.sizes c.args.roads.now _ c.args.stocks.now _
+    c.if-text-gt-MAX_TEXT.false c.if-roads-sizes.false c.if-stocks-sizes.false c.new-draft.ensures.sizes done.0 done.1 c.copy_into.ensures.roads c.copy_into.ensures.stocks)
