@@ -6,6 +6,7 @@ use crate::account::Account;
 use network::road::Road;
 
 /// The account of these roads and stocks.
+// kept: roads and stocks are handed in as two rows, by a rule of the project
 pub fn account_of(roads: &[Road], stocks: &[i32]) -> Account
     ensures { result ≡ account_of roads.now stocks.now }
 {

@@ -29,6 +29,7 @@ impl CapEntry {
 pub const PLACES: usize = 64;
 
 /// A row of places, each with an entry or free, all made at once, so that only making it can want memory.
+// kept: a row that is searched from its lowest place, and no map, since a map would want memory for a new cap
 #[derive(Drop)]
 pub struct Places {
     entries: Vec<Option<CapEntry>>,
@@ -60,6 +61,7 @@ impl Places {
     }
 
     /// Lends one place for change. Every other place stays.
+    // kept a demand of each call on a place: a type for places that are there would be taken apart at once where it counts in the row
     pub(crate) fn place_mut(&mut self, place: usize) -> &mut Option<CapEntry>
         requires { place < length self.old }
         ensures* writes_back { sem 𝓛 (Lends places_row (option_row entry_row) self.entry result (slice_set self.old place)) }

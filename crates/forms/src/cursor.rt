@@ -85,6 +85,7 @@ impl<'a> Cursor<'a> {
         requires { high < 2 ^ 31 }
         ensures { Reads (twice (num (pos 0) (pos high))) self.old.bytes.now self.old.place (by wholes result) self.new.bytes.now self.new.place }
     {
+        // kept: as in `natural`, nothing is lost
         let high = high as i32;
         let (a, b) = self.pair(Range { low: 0, high })?;
         Ok((a as u32, b as u32))

@@ -14,6 +14,7 @@ impl Grid {
     pub fn new(rows: u32, columns: u32, chests: u32) -> Result<Grid, Refusal>
         ensures { Made rows columns chests result }
     {
+        // kept: the list of refusals tells by 1, 2 or 3 which number it is
         if !is_side(rows) {
             return Err(Refusal::Number(1));
         }

@@ -10,10 +10,8 @@ use network::refusal::Refusal;
 pub fn line(text: &[u8], place: usize) -> Result<&[u8], Refusal>
     ensures { MatchResult result (λ form. LineAt text.now place form.now) (λ e. SaysAt e 10 (length text.now) × NoLine text.now place) }
 {
-    match line_end(text, place) {
-        Some(end) => Ok(&text[place..end]),
-        None => Err(Refusal::Form(text.len())),
-    }
+    let end = line_end(text, place).ok_or(Refusal::Form(text.len()))?;
+    Ok(&text[place..end])
 }
 
 /// The place of the next byte 10 from `from` on.

@@ -19,6 +19,7 @@ impl Range {
         ensures low { result.low ≡ neg_ℤ (pos far) }
         ensures high { result.high ≡ pos far }
     {
+        // kept: `i32` has no `From<u32>`, and the bound is asked for
         let high = far as i32;
         Range { low: -high, high }
     }
@@ -45,6 +46,7 @@ pub fn number_at(bytes: &[u8], place: usize, range: Range) -> Result<(i32, usize
 }
 
 // A sign or none, the digits that follow it, and the place of its first byte.
+// kept: that a minus stands first is a yes or no, which an enum of two signs would only name again
 #[derive(Clone, Copy)]
 struct Numeral<'a> {
     negative: bool,

@@ -9,7 +9,7 @@ use crate::size::Size;
 /// A network, from wherever it has its roads. `meaning` is what it is, `laws` that it keeps the laws.
 ///
 /// A network may fetch, cache or count when it is asked, so the calls take `&mut self`; asking never changes what it means.
-// Kept a clause of each call, here and wherever a network is asked: `same` speaks of before and after, and an invariant of one value cannot.
+// kept a clause of each call, here and wherever a network is asked: `same` speaks of before and after, and an invariant of one value cannot.
 pub trait Network {
     ghost meaning: { Self → Net };
 

@@ -41,7 +41,7 @@ pub enum Refusal {
 
 impl Refusal {
     /// The number of the refusal, from 1 to 15.
-    // Kept a method, and no `From`: a refusal turns into two numbers, this one and its place, and the name says which.
+    // kept a method, and no `From`: a refusal turns into two numbers, this one and its place, and the name says which.
     pub fn number(&self) -> u8
         ensures { result ≡ number_of self.now }
     {

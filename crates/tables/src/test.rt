@@ -9,10 +9,12 @@ use network::road::Road;
 /// The first fault of rows of roads and stocks, or none: 11 with 0 for a bad length; then record by record, all stocks before
 /// all roads, 11 with the record's index for a number outside its range or no such node, and after that 12 for tail equal
 /// to head or least above most.
+// kept: roads and stocks are handed in as two rows, here and wherever both go together, by a rule of the project
 pub fn row_fault(roads: &[Road], stocks: &[i32]) -> Option<Refusal>
     ensures { result ≡ row_fault roads.now stocks.now }
 {
     if !is_sized(roads, stocks) {
+        // kept: 0 is the place that the list of refusals gives a bad length
         return Some(Refusal::Number(0));
     }
     stock_fault(stocks).or_else(|| road_fault(roads, stocks.len()))

@@ -79,6 +79,7 @@ impl Draft {
     fn take_stock(&mut self, rest: Cursor<'_>, place: usize) -> Result<(), Refusal>
         ensures { StockTook self.old rest.entry.bytes.now rest.entry.place place self.new result }
     {
+        // kept: here and below `as` between `u32` and `usize`, which have no `From`, is proved to lose nothing
         let (node, amount) = stock(rest, self.sizes.nodes as u32)?;
         let i = node as usize;
         if self.stocks[i].is_some() {

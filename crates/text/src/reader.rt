@@ -19,6 +19,7 @@ use network::road::Road;
 ///
 /// Every other entry stays as it was, and a refusal leaves both rows as they were. A text is accepted exactly where it is
 /// the rendering of a consignment that fits the rows; otherwise the refusal is its first fault.
+// kept: the rows that it fills are handed in as two slices, by a rule of the project
 pub fn read(text: &[u8], roads: &mut [Road], stocks: &mut [i32]) -> Result<Sizes, Refusal>
     ensures { Answered text.now roads.old stocks.old result roads.new stocks.new }
 {
@@ -48,6 +49,7 @@ fn first_line(form: &[u8]) -> Result<Sizes, Refusal>
     match line.word() {
         Some((Word::Net, rest)) => {
             let (nodes, arcs) = net(rest)?;
+            // kept: `usize` has no `From<u32>`, so both are cast
             Ok(Sizes {
                 nodes: nodes as usize,
                 arcs: arcs as usize,

@@ -25,6 +25,7 @@ pub fn reduced<W: Worth>(roads: &[Road], worths: &[W], prices: &[W], arc: usize)
     ensures wraps { W.Worth.value result ≡ wrapped_pair (reduced_of W.Worth.value roads.now worths.now prices.now arc) }
 {
     let road = roads.get(arc).copied().unwrap_or_default();
+    // kept: `usize` has no `From<u32>`, so both ends are cast
     let tail = entry(prices, road.tail as usize);
     let head = entry(prices, road.head as usize);
     entry(worths, arc).add(tail).add(head.negate())
