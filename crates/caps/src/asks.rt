@@ -1,6 +1,6 @@
 // What is asked of the network below.
 ghost use Rattle.std.specs.Prelude.{◌≡◌, position};
-ghost use Rattle.network.specs.Capped.{within, bounded};
+ghost use Rattle.network.specs.Capped.{bounded};
 ghost use Rattle.caps.specs.Caps.{idle};
 
 use crate::places::CapEntry;
@@ -8,19 +8,12 @@ use crate::table::CapTable;
 use network::interface::Network;
 use network::road::Road;
 
-/// Whether the road may carry the amount.
-pub fn may_carry(road: &Road, amount: u32) -> bool
-    ensures { result ≡ within road.now amount }
-{
-    (road.least..=road.most).contains(&amount)
-}
-
 /// The road with the amount as its most, if it may carry that.
 pub fn bounded_by(amount: Option<u16>, road: Road) -> Road
     ensures { result ≡ bounded amount road }
 {
     match amount.map(u32::from) {
-        Some(most) if may_carry(&road, most) => Road { most, ..road },
+        Some(most) if road.may_carry(most) => Road { most, ..road },
         _ => road,
     }
 }
@@ -30,12 +23,13 @@ fn is_idle<N: Network>(below: &mut N, place: Option<CapEntry>) -> bool
     ensures value { result ≡ idle (N.Network.meaning below.old).roads place }
     ensures same { N.Network.meaning below.new ≡ N.Network.meaning below.old }
 {
+    // kept: as in `idle_place`, no closure asks the network
     let Some(entry) = place else {
         return true;
     };
     below
         .arc(usize::from(entry.arc))
-        .is_none_or(|road| !may_carry(&road, u32::from(entry.amount)))
+        .is_none_or(|road| !road.may_carry(u32::from(entry.amount)))
 }
 
 /// The lowest place that is free or whose entry caps nothing over the network.

@@ -5,7 +5,7 @@ ghost use Rattle.network.specs.Capped.{within, capped};
 ghost use Rattle.network.proofs.Capped.{capped_lawful};
 ghost use Rattle.caps.specs.Caps.{cap_of, cap_fault, place_for, IsTable, Recapped, Answers, Does, Means, Lowers};
 
-use crate::asks::{bounded_by, idle_place, may_carry};
+use crate::asks::{bounded_by, idle_place};
 use crate::places::CapEntry;
 use crate::table::CapTable;
 use network::interface::Network;
@@ -63,7 +63,7 @@ impl<N: Network> Cap<N> {
         ensures same { N.Network.meaning self.new.below ≡ N.Network.meaning self.old.below }
     {
         let road = self.below.arc(arc).ok_or(Refusal::NoSuchArc)?;
-        if !may_carry(&road, amount) {
+        if !road.may_carry(amount) {
             return Err(Refusal::CapRange);
         }
         if amount == road.most {

@@ -12,6 +12,7 @@ use network::road::Road;
 use worths::worth::Worth;
 
 /// The network has no flow.
+// kept without a text of its own: it is told as the refusal that it turns into
 #[derive(Clone, Copy, Debug, PartialEq, Eq)]
 pub struct NoFlow;
 

@@ -8,6 +8,7 @@ pub struct ArcWork {
 }
 
 /// For each node: its step in the last forest, none for a root.
+// kept: a step names its arc by number, since the rows are lent by the caller and no memory is asked for
 #[derive(Clone, Copy, Debug, PartialEq, Eq)]
 pub struct NodeWork {
     pub link: Option<Step>,

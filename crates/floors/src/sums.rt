@@ -38,6 +38,7 @@ pub fn stock_left<N: Network>(network: &mut N, node: usize, stock: i64) -> i64
 }
 
 // The leasts of the arcs that have the node at this end.
+// kept apart from the sums of costs: one loop for both would have to be given the type of its sum and the bound that each of two laws sets it
 fn leasts_at<N: Network>(network: &mut N, arcs: usize, end: End, node: usize) -> u32
     requires { arcs ≡ arc_count (N.Network.meaning network.old) }
     ensures value { result ≡ leasts_at end node (N.Network.meaning network.old).roads }
@@ -47,8 +48,7 @@ fn leasts_at<N: Network>(network: &mut N, arcs: usize, end: End, node: usize) ->
     // kept: `sum` or `fold` over a closure that asks the network leaves the clause `same` open, since nothing is known of what it borrowed
     for i in 0..arcs {
         let road = road_of(network, i);
-        // kept: `usize` has no `From<u32>`, so the end is cast
-        if road.end_node(end) as usize == node {
+        if road.end_node(end) == node {
             sum += road.least;
         }
     }

@@ -59,12 +59,11 @@ impl<'a> Cursor<'a> {
         ensures reads { Reads (num (pos low) (pos high) ∷ []) self.old.bytes.now self.old.place (by whole result) self.new.bytes.now self.new.place }
         ensures within { IfOk result (λ v. (low ≤ v) × (v ≤ high)) }
     {
-        // kept: `as` is proved to lose nothing here, and `try_from` would need a refusal that never comes.
         let value = self.number(Range {
-            low: low as i32,
-            high: high as i32,
+            low: i32::try_from(low).unwrap(),
+            high: i32::try_from(high).unwrap(),
         })?;
-        Ok(value as u32)
+        Ok(u32::try_from(value).unwrap())
     }
 
     /// Takes `(a b)`, two numbers of the range.
@@ -85,10 +84,9 @@ impl<'a> Cursor<'a> {
         requires { high < 2 ^ 31 }
         ensures { Reads (twice (num (pos 0) (pos high))) self.old.bytes.now self.old.place (by wholes result) self.new.bytes.now self.new.place }
     {
-        // kept: as in `natural`, nothing is lost
-        let high = high as i32;
+        let high = i32::try_from(high).unwrap();
         let (a, b) = self.pair(Range { low: 0, high })?;
-        Ok((a as u32, b as u32))
+        Ok((u32::try_from(a).unwrap(), u32::try_from(b).unwrap()))
     }
 
     /// Takes `(c d)`, two costs.

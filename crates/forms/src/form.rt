@@ -15,7 +15,7 @@ use network::road::Road;
 pub fn net(mut rest: Cursor<'_>) -> Result<(u32, u32), Refusal>
     ensures { Scanned net_items rest.entry.bytes.now rest.entry.place (by naturals result) }
 {
-    // kept: `u32` has no `From<usize>`, and both limits are small
+    // kept: `u32` has no `From<usize>`, and a limit that is cast is still a number that the check knows
     let nodes = rest.natural(1, MAX_NODES as u32)?;
     rest.byte(b' ')?;
     let arcs = rest.natural(0, MAX_ARCS as u32)?;

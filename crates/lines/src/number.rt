@@ -6,7 +6,7 @@ use network::refusal::Refusal;
 
 /// The least and the greatest that a number may be.
 // kept: a std range of this kind is not Copy, and once it has been walked through it no longer contains its end.
-#[derive(Clone, Copy)]
+#[derive(Clone, Copy, Debug, PartialEq, Eq)]
 pub struct Range {
     pub low: i32,
     pub high: i32,
@@ -19,8 +19,7 @@ impl Range {
         ensures low { result.low ≡ neg_ℤ (pos far) }
         ensures high { result.high ≡ pos far }
     {
-        // kept: `i32` has no `From<u32>`, and the bound is asked for
-        let high = far as i32;
+        let high = i32::try_from(far).unwrap();
         Range { low: -high, high }
     }
 
@@ -36,6 +35,7 @@ impl Range {
 const MAX_DIGITS: usize = 7;
 
 /// The number that stands first, and how many bytes it takes.
+// kept: bytes and their place come apart here, below the reader that holds both with the fact that they fit
 pub fn number_at(bytes: &[u8], place: usize, range: Range) -> Result<(i32, usize), Refusal>
     requires { place + length bytes.now < 2 ^ 63 }
     ensures { MatchResult result (λ v. (number range.low range.high bytes.now place ≡ Ok v.0) × (v.1 ≡ width bytes.now) × (v.1 ≤ length bytes.now)) (λ e. number range.low range.high bytes.now place ≡ Err e) }
@@ -106,6 +106,7 @@ impl<'a> Numeral<'a> {
         requires { length self.now.digits.now ≤ max_digits }
         ensures { result ≡ valued self.now.negative (continued 0 self.now.digits.now) }
     {
+        // kept: in a `fold` nothing bounds the number so far, and `parse` wants a text, not bytes
         let mut magnitude = 0;
         for digit in self.digits {
             magnitude = magnitude * 10 + i32::from(digit - b'0');

@@ -3,7 +3,7 @@ ghost use Rattle.std.specs.Prelude.{◌≡◌, ℕ, ◌≤◌, List, ◌++◌, l
 ghost use Rattle.lines.specs.Word.{spelt, agree, furthest as reach};
 
 /// The word that says which form a line has.
-#[derive(Clone, Copy)]
+#[derive(Clone, Copy, Debug, PartialEq, Eq)]
 pub enum Word {
     Net,
     Stock,
@@ -39,7 +39,7 @@ impl Word {
 pub fn known(form: &[u8]) -> Option<(Word, &[u8])>
     ensures { MatchOption result ((w : Word) (rest : List ℕ) → form.now ≢ spelt w ++ rest) (λ k. form.now ≡ spelt k.0 ++ k.1.now) }
 {
-    // kept: slice patterns take bracket, word and rest of a form apart.
+    // kept: that slice patterns take bracket, word and rest of a form apart is a rule of the project; so the words stand here a second time
     match form {
         [b'(', b'n', b'e', b't', b' ', rest @ ..] => Some((Word::Net, rest)),
         [b'(', b's', b't', b'o', b'c', b'k', b' ', rest @ ..] => Some((Word::Stock, rest)),

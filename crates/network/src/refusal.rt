@@ -2,6 +2,7 @@
 ghost use Rattle.std.specs.Prelude.{◌≡◌, Some};
 ghost use Rattle.network.specs.Refusals.{number_of, place_of, refusal_form};
 
+use std::error::Error;
 use std::fmt;
 
 /// Every refusal of the planner. `number` and `place` are what a caller is told.
@@ -90,3 +91,5 @@ impl fmt::Display for Refusal {
         }
     }
 }
+
+impl Error for Refusal {}

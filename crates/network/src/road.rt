@@ -1,5 +1,7 @@
 // Roads.
 ghost use Rattle.std.specs.Prelude.{◌≡◌, Decides};
+ghost use Rattle.network.specs.Arcs.{road_at};
+ghost use Rattle.network.specs.Capped.{within};
 ghost use Rattle.network.specs.Roads.{Passable, end_node, other_end};
 ghost use Rattle.network.specs.Tested.{is_passable};
 
@@ -39,14 +41,29 @@ impl End {
 }
 
 impl Road {
+    /// The road of an arc in a row; past its end the default.
+    pub fn at(roads: &[Road], arc: usize) -> Road
+        ensures { result ≡ road_at roads.now arc }
+    {
+        roads.get(arc).copied().unwrap_or_default()
+    }
+
     /// The node at this end.
-    pub fn end_node(&self, end: End) -> u32
+    pub fn end_node(&self, end: End) -> usize
         ensures { result ≡ end_node end self.now }
     {
+        // kept: `usize` has no `From<u32>`, and this is the one place where a node is cast to count in a row
         match end {
-            End::Tail => self.tail,
-            End::Head => self.head,
+            End::Tail => self.tail as usize,
+            End::Head => self.head as usize,
         }
+    }
+
+    /// Whether the road may carry so many chests.
+    pub fn may_carry(&self, amount: u32) -> bool
+        ensures { result ≡ within self.now amount }
+    {
+        (self.least..=self.most).contains(&amount)
     }
 
     /// Whether the road goes somewhere, and some number of chests can take it.

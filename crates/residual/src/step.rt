@@ -1,6 +1,5 @@
 // Residual steps: where one leads, how many chests can still go over it, and pushing some.
 ghost use Rattle.std.specs.Prelude.{◌≡◌, ◌<◌, ◌≤◌, length};
-ghost use Rattle.network.specs.Arcs.{road_at};
 ghost use Rattle.residual.specs.Steps.{start, finish, flip, room, pushed, Bounded};
 
 use network::road::{End, Road};
@@ -14,18 +13,11 @@ pub struct Step {
 }
 
 impl Step {
-    // The road of its arc; past the last one a road that carries nothing.
-    fn road(self, roads: &[Road]) -> Road
-        ensures { result ≡ road_at roads.now self.arc }
-    {
-        roads.get(self.arc as usize).copied().unwrap_or_default()
-    }
-
     /// The node that it leaves.
     pub fn start(self, roads: &[Road]) -> usize
         ensures { result ≡ start roads.now self }
     {
-        self.road(roads).end_node(self.from) as usize
+        Road::at(roads, self.arc as usize).end_node(self.from)
     }
 
     /// The node that it leads to.
@@ -46,11 +38,12 @@ impl Step {
     }
 
     /// How many more chests can go this way.
+    // kept: roads and flow are handed in as slices, here and below, by a rule of the project
     pub fn room(self, roads: &[Road], flow: &[u32]) -> u32
         requires { Bounded roads.now flow.now }
         ensures { result ≡ room roads.now flow.now self }
     {
-        let road = self.road(roads);
+        let road = Road::at(roads, self.arc as usize);
         let chests = flow.get(self.arc as usize).copied().unwrap_or(0);
         match self.from {
             End::Tail => road.most - chests,

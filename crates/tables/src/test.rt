@@ -4,7 +4,7 @@ ghost use Rattle.network.specs.Tested.{is_near, is_joined, is_bounded, is_costed
 
 use network::limits::{MAX_ARCS, MAX_COST, MAX_MOST, MAX_NODES, MAX_STOCK};
 use network::refusal::Refusal;
-use network::road::Road;
+use network::road::{End, Road};
 
 /// The first fault of rows of roads and stocks, or none: 11 with 0 for a bad length; then record by record, all stocks before
 /// all roads, 11 with the record's index for a number outside its range or no such node, and after that 12 for tail equal
@@ -70,11 +70,10 @@ fn is_ranged(road: &Road, nodes: usize) -> bool
     is_joined(road, nodes) && is_bounded(road) && is_costed(road)
 }
 
-// kept: `usize` has no `From<u32>`, so a node is cast where it is compared with a length.
 fn is_joined(road: &Road, nodes: usize) -> bool
     ensures { result ≡ is_joined nodes road.now }
 {
-    (road.tail as usize) < nodes && (road.head as usize) < nodes
+    road.end_node(End::Tail) < nodes && road.end_node(End::Head) < nodes
 }
 
 fn is_bounded(road: &Road) -> bool

@@ -7,7 +7,7 @@ ghost use Rattle.worths.specs.Fit.{Fits, FitsBy, FitsArc};
 ghost use Rattle.worths.specs.Rows.{reduced_of};
 
 use crate::worth::Worth;
-use network::road::Road;
+use network::road::{End, Road};
 use std::cmp::Ordering;
 
 /// What stands at a place of a row, zero past its end.
@@ -24,10 +24,9 @@ pub fn reduced<W: Worth>(roads: &[Road], worths: &[W], prices: &[W], arc: usize)
     ensures exact { NearPair max_exact (reduced_of W.Worth.value roads.now worths.now prices.now arc) → W.Worth.value result ≡ reduced_of W.Worth.value roads.now worths.now prices.now arc }
     ensures wraps { W.Worth.value result ≡ wrapped_pair (reduced_of W.Worth.value roads.now worths.now prices.now arc) }
 {
-    let road = roads.get(arc).copied().unwrap_or_default();
-    // kept: `usize` has no `From<u32>`, so both ends are cast
-    let tail = entry(prices, road.tail as usize);
-    let head = entry(prices, road.head as usize);
+    let road = Road::at(roads, arc);
+    let tail = entry(prices, road.end_node(End::Tail));
+    let head = entry(prices, road.end_node(End::Head));
     entry(worths, arc).add(tail).add(head.negate())
 }
 

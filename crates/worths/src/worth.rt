@@ -78,6 +78,7 @@ impl Worth for Plain {
         Plain(self.0.wrapping_neg())
     }
 
+    // kept in both kinds: an order that every kind has to have would ask more of it than this one call
     fn compare(self, other: Plain) -> Ordering {
         self.cmp(&other)
     }
