@@ -14,7 +14,7 @@ pub fn account_of_network<N: Network>(network: &mut N) -> Account
     ensures value { result ≡ account_of (N.Network.meaning network.old).roads (N.Network.meaning network.old).stocks }
     ensures same { N.Network.meaning network.new ≡ N.Network.meaning network.old }
 {
-    // kept: arrays with a count for each, since no heap is used here and the loaders fill a caller's rows.
+    // kept: arrays with a count for each, since the loaders fill rows that are handed in, by a rule of the project
     let mut roads = [Road::default(); MAX_ARCS];
     let mut stocks = [0; MAX_NODES];
     let arcs = load_roads(network, &mut roads);

@@ -23,7 +23,7 @@ const ENOUGH: u64 = MAX_TEXT as u64 + 1;
 pub fn answer(heap: Global, text: &[u8]) -> Result<String, AllocError>
     ensures { IfOk result (λ s. Answers text.now (string_bytes s)) }
 {
-    // kept: arrays with a count for each, since the reader of texts fills a caller's rows.
+    // kept: arrays with a count for each, since the reader of texts fills rows that are handed in, by a rule of the project
     let mut roads = [Road::default(); MAX_ARCS];
     let mut stocks = [0; MAX_NODES];
     match read(text, &mut roads, &mut stocks) {

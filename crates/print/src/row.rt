@@ -10,6 +10,7 @@ use network::refusal::Refusal;
 pub fn put_line(row: &mut [u8], line: &[u8]) -> Result<usize, Refusal>
     ensures { MatchResult result (λ n. (n ≡ length line.now) × (row.new ≡ starting line.now row.old)) (λ e. Says e 15 × (length row.old < length line.now) × (row.new ≡ row.old)) }
 {
+    // kept: `get_mut` says nothing of what the row holds once its part is written
     if row.len() < line.len() {
         return Err(Refusal::LineRow);
     }

@@ -1,7 +1,6 @@
 -- What reading comes to at each exit.
-use Rattle.std.proofs.Common.{◌≡◌, ℕ, ◌+◌, ◌<◌, ◌≤◌, List, [], ◌∷◌, ◌++◌, length, get_or, set, take, drop, map, ℤ, pos, IsErrAnd, Option, None, Ok, Err, Result, append_assoc, sym, refl, ap, ◌∙◌, subst, arith}
-use Rattle.std.proofs.lemmas.List.{take_all, take_more, drop_more, map-append, length-map, length-take-le, get_or-map, get_or-take}
-use Rattle.std.proofs.Math.Seq.{set-append_seam}
+use Rattle.std.proofs.Common.{◌≡◌, ℕ, ◌≤◌, List, ◌++◌, length, take, drop, map, ℤ, pos, IsErrAnd, None, Ok, Err, Result, sym, refl, ap, ◌∙◌, subst, arith}
+use Rattle.std.proofs.lemmas.List.{take_all, length-map, length-take-le, get_or-map, get_or-take}
 use Rattle.network.specs.Limits.{max_text, max_stock}
 use Rattle.network.specs.Roads.{Near, Ranged}
 use Rattle.network.specs.Tested.{row_fault}
@@ -30,20 +29,6 @@ pub refusal : (text : List ℕ) (road_row : List Road) (stock_row : List ℤ) (r
     → Answered text road_row stock_row r road_row stock_row
 refusal text road_row stock_row (Ok x) e h w = absurd h
 refusal text road_row stock_row (Err y) e h w = settled text road_row stock_row (Err y) road_row stock_row (subst (λ z. Refused text (length road_row) (length stock_row) z) (sym h) w, refl, refl)
-
--- one stock more is copied
-pub copied_more : (said : List (Option ℤ)) (row now : List ℤ) (i n : ℕ) (z : ℤ) → i < n → n ≤ length said → i < length row → z ≡ stock_said (get_or (take n said) i None)
-    → now ≡ map stock_said (take i said) ++ drop i row → set now i z ≡ map stock_said (take (i + 1) said) ++ drop (i + 1) row
-copied_more said row now i n z l few room e h =
-    let front = map stock_said (take i said) in
-    let len : length front ≡ i = length-map (take i said) stock_said ∙ length-take-le i said (omega arith) in
-    let last : z ≡ stock_said (get_or said i None) = e ∙ ap stock_said (get_or-take n said i None l) in
-    ap (λ r. set r i z) (h ∙ ap (λ r. front ++ r) (drop_more row i (pos 0) room))
-    ∙ ap (λ k. set (front ++ (get_or row i (pos 0) ∷ drop (i + 1) row)) k z) (sym len)
-    ∙ set-append_seam front (get_or row i (pos 0)) (drop (i + 1) row) z
-    ∙ sym (append_assoc front (z ∷ []) (drop (i + 1) row))
-    ∙ ap (λ y. (front ++ (y ∷ [])) ++ drop (i + 1) row) last
-    ∙ ap (λ r. r ++ drop (i + 1) row) (sym (ap (map stock_said) (take_more said i None (omega arith)) ∙ map-append stock_said (take i said) (get_or said i None ∷ [])))
 
 -- the draft holds a consignment
 consigned : (text : List ℕ) (d : Draft) (c : Completed text d) → IsConsignment text d.sizes.nodes d.sizes.arcs (map stock_said (take d.sizes.nodes d.stocks)) c.roads

@@ -38,7 +38,7 @@ impl Draft {
         ensures { LinesTook text.now self.old self.new result }
     {
         let mut place = start;
-        // kept: an iterator over lines would hold the same text and place, and say each line of this loop in its `next`.
+        // kept: std's `split` gives no places and does not tell an unended last line, and an iterator of our own would say each line of this loop in its `next`
         while place < text.len() {
             let bytes = line(text, place)?;
             self.take(Cursor { bytes, place })?;
@@ -67,6 +67,7 @@ impl Draft {
     fn open_words(&self) -> &'static [Word]
         ensures { result.now ≡ open_words self.now.sizes.arcs (array_vec_len self.now.roads) }
     {
+        // kept: each of the four is a list that stands in the program, so that none has to be made
         match (self.roads.is_empty(), self.roads.len() < self.sizes.arcs) {
             (true, true) => &[Word::Stock, Word::Arc],
             (true, false) => &[Word::Stock],
@@ -79,7 +80,7 @@ impl Draft {
     fn take_stock(&mut self, rest: Cursor<'_>, place: usize) -> Result<(), Refusal>
         ensures { StockTook self.old rest.entry.bytes.now rest.entry.place place self.new result }
     {
-        // kept: here and below `as` between `u32` and `usize`, which have no `From`, is proved to lose nothing
+        // kept: here and below `as` between `u32` and `usize`, which have no `From`; a number that is cast is still the same number to the check
         let (node, amount) = stock(rest, self.sizes.nodes as u32)?;
         let i = node as usize;
         if self.stocks[i].is_some() {

@@ -69,9 +69,7 @@ impl Draft {
     {
         roads[..self.roads.len()].copy_from_slice(self.roads.as_slice());
         let nodes = self.sizes.nodes;
-        // kept: a `zip` with `stocks.iter_mut()` gave no proof, since its loop has no name for the row that the slots write.
-        for (i, stock) in self.stocks[..nodes].iter().enumerate() {
-            stocks[i] = stock.unwrap_or(0);
-        }
+        let said = self.stocks.map(|stock| stock.unwrap_or(0));
+        stocks[..nodes].copy_from_slice(&said[..nodes]);
     }
 }
