@@ -3,3 +3,4 @@ pub mod Fitting
 pub mod Parts
 pub mod Heights
 pub mod Falling
+pub mod Pairs

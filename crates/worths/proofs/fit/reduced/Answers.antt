@@ -1,5 +1,3 @@
-use Rattle.std.proofs.Common.{◌≡◌, rules}
-use Rattle.network.specs.Arcs.{road_at}
 use Rattle.worths.specs.Kinds.{plus_pair, minus_pair}
 use Rattle.worths.proofs.Ranges.{exact_from_wraps, wrapped_plus}
 use Rattle.worths.proofs.fit.reduced.Goals as goal
