@@ -91,7 +91,7 @@ fn road_from(spot: Spot, tail: u32, head: u32) -> Road
         head,
         least: 0,
         most: 1 + (row + 2 * column) % MOSTS,
-        // kept: `i32` has no `From<u32>`, and both casts are of numbers below `COSTS`
+        // kept: `i32` has no `From<u32>`, and a `try_from` with `unwrap` says no more than a cast that is proved to lose nothing
         first: ((3 * row + column) % COSTS) as i32,
         second: ((5 * row + 2 * column) % COSTS) as i32 - BELOW,
     }

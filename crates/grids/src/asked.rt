@@ -14,7 +14,7 @@ impl Network for Grid {
 
     ghost laws = { λ s. gridded_lawful s.rows s.columns s.chests s.tall s.wide s.few };
 
-    // kept: `usize` has no `From<u32>`, so both counts are cast
+    // kept: `usize` has no `From<u32>`, and a `try_from` with `unwrap` says no more than a cast that is proved to lose nothing
     fn size(&mut self) -> Size {
         Size {
             nodes: self.node_count() as usize,

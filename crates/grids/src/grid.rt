@@ -4,7 +4,7 @@ ghost use Rattle.network.specs.Gridded.{Side};
 ghost use Rattle.network.specs.Limits.{max_grid_chests};
 
 /// Nodes in rows and columns, with arcs to the right and down. All chests go from the first node to the last.
-#[derive(Clone, Copy)]
+#[derive(Clone, Copy, Debug, PartialEq, Eq)]
 pub struct Grid {
     pub(crate) rows: u32,
     pub(crate) columns: u32,

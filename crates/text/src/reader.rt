@@ -49,7 +49,7 @@ fn first_line(form: &[u8]) -> Result<Sizes, Refusal>
     match line.word() {
         Some((Word::Net, rest)) => {
             let (nodes, arcs) = net(rest)?;
-            // kept: `usize` has no `From<u32>`, so both are cast
+            // kept: `usize` has no `From<u32>`, and a `try_from` with `unwrap` says no more than a cast that is proved to lose nothing
             Ok(Sizes {
                 nodes: nodes as usize,
                 arcs: arcs as usize,
