@@ -16,7 +16,8 @@ use std::alloc::{AllocError, Global};
 use std::io::Read;
 use text::{Sizes, read};
 
-// One byte more than a text may have is enough to refuse it. The cast stays, since a constant calls no function.
+// One byte more than a text may have is enough to refuse it.
+// kept: a cast, since a constant calls no function
 const ENOUGH: u64 = MAX_TEXT as u64 + 1;
 
 /// The account of the consignment that `text` is, or the line of its first fault.
