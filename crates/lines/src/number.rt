@@ -35,7 +35,7 @@ impl Range {
 const MAX_DIGITS: usize = 7;
 
 /// The number that stands first, and how many bytes it takes.
-// kept: bytes and their place come apart here, below the reader that holds both with the fact that they fit
+// kept: `Cursor`, which holds both with the fact that they fit, stands in `forms`, above; here it would be taken apart at once
 pub fn number_at(bytes: &[u8], place: usize, range: Range) -> Result<(i32, usize), Refusal>
     requires { place + length bytes.now < 2 ^ 63 }
     ensures { MatchResult result (λ v. (number range.low range.high bytes.now place ≡ Ok v.0) × (v.1 ≡ width bytes.now) × (v.1 ≤ length bytes.now)) (λ e. number range.low range.high bytes.now place ≡ Err e) }

@@ -52,7 +52,7 @@ impl Road {
     pub fn end_node(&self, end: End) -> usize
         ensures { result ≡ end_node end self.now }
     {
-        // kept: `usize` has no `From<u32>`, and a `try_from` with `unwrap` says no more than a cast that is proved to lose nothing; here alone a node is cast to count in a row
+        // kept: `usize` has no `From<u32>`, and a `try_from` with `unwrap` says no more than a cast that is proved to lose nothing; here alone an end of a road is cast to count in a row
         match end {
             End::Tail => self.tail as usize,
             End::Head => self.head as usize,

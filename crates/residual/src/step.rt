@@ -7,7 +7,7 @@ use network::road::{End, Road};
 /// A step of the residual graph: over an arc, from this end to the other.
 #[derive(Clone, Copy, Debug, PartialEq, Eq)]
 pub struct Step {
-    // kept at 32 bits, as the ends of a road are: `usize` has no `From<u32>`, so it is cast where it counts in a row
+    // kept at 32 bits, as the ends of a road are, and cast where it counts in a row: `usize` has no `From<u32>`, and a `try_from` with `unwrap` says no more than a cast that is proved to lose nothing
     pub arc: u32,
     pub from: End,
 }

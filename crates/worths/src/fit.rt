@@ -19,7 +19,7 @@ pub fn entry<W: Worth>(row: &[W], i: usize) -> W
 
 /// The reduced worth of an arc: its worth plus its tail's price less its head's. It is exact wherever the true one is
 /// within `MAX_EXACT`, whatever the sums on the way; beyond it wraps.
-// kept: rows are handed in as slices, by a rule of the project, and so no struct holds a network with its worths and prices.
+// kept: rows are handed in as slices, here and below, by a rule of the project, and so no struct holds a network with its worths and prices.
 pub fn reduced<W: Worth>(roads: &[Road], worths: &[W], prices: &[W], arc: usize) -> W
     ensures exact { NearPair max_exact (reduced_of W.Worth.value roads.now worths.now prices.now arc) → W.Worth.value result ≡ reduced_of W.Worth.value roads.now worths.now prices.now arc }
     ensures wraps { W.Worth.value result ≡ wrapped_pair (reduced_of W.Worth.value roads.now worths.now prices.now arc) }

@@ -44,7 +44,7 @@ pub trait Worth: Copy {
         ensures { result ≡ compared (value self) (value other) };
 
     /// Whether it is strictly above zero.
-    // kept beside `is_below`: two words that callers read, and a side as a parameter would say less
+    // kept beside `is_below`: both names are public, and one method with a side as its parameter would say less
     fn is_above(self) -> bool
         ensures { result ≡ not (at_most_pair (value self) (pos 0, pos 0)) }
     {
