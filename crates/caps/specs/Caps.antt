@@ -10,7 +10,7 @@ use Rattle.network.specs.declared.refusal.Refusal.{Refusal}
 use Rattle.network.specs.declared.road.Road.{Road}
 use Rattle.caps.specs.declared.places.CapEntry.{CapEntry}
 use Rattle.caps.specs.declared.table.AddError.{AddError}
-use Rattle.caps.specs.declared.table.AddError.TheVariants.{Named, Full}
+use Rattle.caps.specs.declared.table.AddError.TheVariants.{NoArc, Named, Full}
 
 -- places of a table
 abbrev pub place_count : ℕ
@@ -34,16 +34,22 @@ pub record IsTable (ps : List (Option CapEntry)) : Type 0 where
   pub full : length ps ≡ place_count
   pub once : Once ps
 
+-- the greatest number of 16 bits is no arc of any network
+abbrev pub no_arc : ℕ
+no_arc = 65535
+
 -- an entry for an arc that had none stands in the lowest free place
 abbrev pub Added : List (Option CapEntry) → List (Option CapEntry) → CapEntry → Type 0
-Added ps ps' e = (position (names e.arc) ps ≡ None) × ((p : ℕ) × (position is_none ps ≡ Some p) × (ps' ≡ slice_set ps p (Some e)))
+Added ps ps' e = (e.arc < no_arc) × (position (names e.arc) ps ≡ None) × ((p : ℕ) × (position is_none ps ≡ Some p) × (ps' ≡ slice_set ps p (Some e)))
 
--- the arc has an entry already, or it has none and no place is free
+-- the number is no arc, or the arc has an entry already, or it has none and no place is free
 abbrev pub NotAdded : List (Option CapEntry) → ℕ → AddError → Type 0
+NotAdded ps a NoArc = a ≡ no_arc
 NotAdded ps a Named = IsSome (position (names a) ps)
 NotAdded ps a Full = (position (names a) ps ≡ None) × (position is_none ps ≡ None)
 
 abbrev pub add_error_text : AddError → List ℕ
+add_error_text NoArc = codes "no network has an arc of this number"
 add_error_text Named = codes "the arc has an entry already"
 add_error_text Full = codes "no place is free"
 

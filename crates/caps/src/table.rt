@@ -8,9 +8,14 @@ use std::error::Error;
 use std::fmt;
 use std::marker::Model;
 
+// The greatest number of 16 bits is no arc of any network.
+const NO_ARC: u16 = u16::MAX;
+
 /// Why an entry was not added.
 #[derive(Clone, Copy, Debug, PartialEq, Eq)]
 pub enum AddError {
+    /// No network has an arc of this number.
+    NoArc,
     /// The arc has an entry already.
     Named,
     /// No place is free.
@@ -22,6 +27,7 @@ impl fmt::Display for AddError {
 
     fn fmt<W: fmt::Write>(&self, f: &mut fmt::Formatter<W>) -> fmt::Result {
         match self {
+            AddError::NoArc => write!(f, "no network has an arc of this number"),
             AddError::Named => write!(f, "the arc has an entry already"),
             AddError::Full => write!(f, "no place is free"),
         }
@@ -58,10 +64,13 @@ impl CapTable {
         Ok(CapTable { places })
     }
 
-    /// Adds an entry for an arc that has none, in the lowest free place. It may cap nothing.
+    /// Adds an entry for an arc that has none, in the lowest free place. It may cap nothing, but its number has to be one that an arc can have.
     pub fn add(&mut self, entry: CapEntry) -> Result<(), AddError>
         ensures { MatchResult result (λ _. Added self.old self.new entry) (λ e. (self.new ≡ self.old) × NotAdded self.old entry.arc e) }
     {
+        if entry.arc == NO_ARC {
+            return Err(AddError::NoArc);
+        }
         if self.find(usize::from(entry.arc)).is_some() {
             return Err(AddError::Named);
         }
