@@ -20,13 +20,16 @@ use network::size::Size;
 pub struct Cap<N> {
     below: N,
     table: CapTable,
+    ghost kept: { IsTable table },
 }
 
 impl<N> Cap<N> {
     /// The network below under the caps of the table.
     pub fn new(below: N, table: CapTable) -> Cap<N>
-        ensures { result ≡ record { below = below; table = table } }
+        ensures { (k : _) × (result ≡ record { below = below; table = table; kept = k }) }
     {
+        // The call tells what every table keeps.
+        let _ = table.places();
         Cap { below, table }
     }
 }
@@ -47,8 +50,9 @@ impl<N: Network> Network for Cap<N> {
 
     #[tactic(auto, using(network::proofs::Capped::nth_bounded))]
     fn arc(&mut self, arc: usize) -> Option<Road> {
-        let cap = self.table.amount(arc);
-        self.below.arc(arc).map(|road| bounded_by(cap, road))
+        self.below
+            .arc(arc)
+            .map(|road| bounded_by(self.table.amount(arc), road))
     }
 }
 

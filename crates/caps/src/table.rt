@@ -66,8 +66,11 @@ impl CapTable {
 
     /// Adds an entry for an arc that has none, in the lowest free place. It may cap nothing, but its number has to be one that an arc can have.
     pub fn add(&mut self, entry: CapEntry) -> Result<(), AddError>
-        ensures { MatchResult result (λ _. Added self.old self.new entry) (λ e. (self.new ≡ self.old) × NotAdded self.old entry.arc e) }
+        ensures value { MatchResult result (λ _. Added self.old self.new entry) (λ e. (self.new ≡ self.old) × NotAdded self.old entry.arc e) }
+        ensures kept { IsTable self.old × IsTable self.new }
     {
+        // What every table keeps is known from here on.
+        let _ = &self.places;
         if entry.arc == NO_ARC {
             return Err(AddError::NoArc);
         }
@@ -79,9 +82,10 @@ impl CapTable {
         Ok(())
     }
 
-    /// All places, the lowest first.
-    pub(crate) fn places(&self) -> &[Option<CapEntry>]
-        ensures { result.now ≡ self.now }
+    /// All places, the lowest first. What every table keeps is known of them.
+    pub fn places(&self) -> &[Option<CapEntry>]
+        ensures value { result.now ≡ self.now }
+        ensures kept { IsTable self.now }
     {
         self.places.as_slice()
     }
@@ -115,7 +119,8 @@ impl CapTable {
     /// Frees one place.
     pub(crate) fn clear(&mut self, place: usize)
         requires { place < length self.old }
-        ensures { self.new ≡ slice_set self.old place None }
+        ensures value { self.new ≡ slice_set self.old place None }
+        ensures kept { IsTable self.new }
     {
         *self.places.place_mut(place) = None;
     }
@@ -124,7 +129,8 @@ impl CapTable {
     pub(crate) fn put(&mut self, place: usize, entry: CapEntry)
         requires fits { place < length self.old }
         requires alone { (k : ℕ) → names entry.arc (slice_index_or self.old k None) ≡ true → k ≡ place }
-        ensures { self.new ≡ slice_set self.old place (Some entry) }
+        ensures value { self.new ≡ slice_set self.old place (Some entry) }
+        ensures kept { IsTable self.new }
     {
         *self.places.place_mut(place) = Some(entry);
     }

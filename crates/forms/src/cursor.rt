@@ -66,6 +66,13 @@ impl<'a> Cursor<'a> {
         Ok(u32::try_from(value).unwrap())
     }
 
+    /// Takes a cost.
+    pub fn cost(&mut self) -> Result<i32, Refusal>
+        ensures { Reads (rate ∷ []) self.old.bytes.now self.old.place (by one result) self.new.bytes.now self.new.place }
+    {
+        self.number(Range::around(MAX_COST))
+    }
+
     /// Takes `(a b)`, two numbers of the range.
     pub fn pair(&mut self, range: Range) -> Result<(i32, i32), Refusal>
         ensures reads { Reads (twice (num range.low range.high)) self.old.bytes.now self.old.place (by both result) self.new.bytes.now self.new.place }

@@ -69,7 +69,17 @@ impl Draft {
     {
         roads[..self.roads.len()].copy_from_slice(self.roads.as_slice());
         let nodes = self.sizes.nodes;
-        let said = self.stocks.map(|stock| stock.unwrap_or(0));
-        stocks[..nodes].copy_from_slice(&said[..nodes]);
+        fill(&mut stocks[..nodes], &self.stocks);
+    }
+}
+
+// Fills a row with what is said of the first nodes, 0 where no line names one.
+fn fill(row: &mut [i32], said: &[Option<i32>])
+    requires { length row.old ≤ length said.now }
+    ensures { row.new ≡ map stock_said (take (length row.old) said.now) }
+{
+    // kept: a `map` of the array made it anew several times over, and `memcpy` a name that the library for C needs
+    for (i, stock) in row.iter_mut().enumerate() {
+        *stock = said[i].unwrap_or(0);
     }
 }

@@ -8,7 +8,7 @@ returns-in-Some-clause-table g c =
     let ps = c.args.self.now.table in
     let roads = (g.N.Network.meaning c.args.self.now.below).roads in
     let road = c.args.road in
-    subst (λ left. Recapped ps left roads c.args.arc road.most road) (sym c.clear.ensures)
+    subst (λ left. Recapped ps left roads c.args.arc road.most road) (sym c.clear.ensures.value)
     (cleared ps roads c.args.arc road c.in-Some.place c.in-Some.ensures.kept.once (sym c.requires) (sym c.in-Some.ensures.value))
 
 pub returns-in_default-clause-table : goal.returns-in_default-clause-table

@@ -31,6 +31,6 @@ returns-clause-done g c =
     let arc_is = (OkIff-at_ok c.try_from.result _ _ _ c.try_from.ensures c.unwrap.ensures).1 in
     let amount_is = (OkIff-at_ok c.try_from-2.result _ _ _ c.try_from-2.ensures c.unwrap-2.ensures).1 in (
       room_taken ps roads c.args.arc place table.full takes,
-      rw (c.put.ensures, arc_is, amount_is, c.place_for.ensures.table)
+      rw (c.put.ensures.value, arc_is, amount_is, c.place_for.ensures.table)
           (lowered ps roads c.args.arc c.args.road c.args.amount place table.once (sym c.requires.there) c.requires.fit c.requires.low takes),
     )

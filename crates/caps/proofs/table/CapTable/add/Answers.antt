@@ -16,7 +16,10 @@ pub returns-in_err-place : goal.returns-in_err-place
 returns-in_err-place c =
     let none = not_found c.args.self.now c.args.entry.arc _ _ _ c.from.ensures c.find.ensures.value c.is_some.ensures c.if-is_some.false in
     let full = no_value c.free_place.result Full _ _ c.from_residual.ensures.1 c.in_err-place.ensures.value in
-    rw full.1 (refl, (none, sym c.free_place.ensures ∙ full.0))
+    record {
+      value = rw full.1 (refl, (none, sym c.free_place.ensures ∙ full.0));
+      kept = (c.find.ensures.kept, c.find.ensures.kept);
+    }
 
 pub put-requires-clause-alone : goal.put-requires-clause-alone
 put-requires-clause-alone c =
