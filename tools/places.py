@@ -168,7 +168,7 @@ def main():
             print(f"    {place}")
     proofs = [p for p in ROOT.glob("crates/*/proofs/**/*.antt")]
     answers = sum(len(re.findall(r"(?m)^pub \S+ : goal\.", p.read_text())) for p in proofs)
-    lemmas = sum(len(re.findall(r"(?m)^(?:pub )?[^\s:]+ : (?!goal)", p.read_text())) for p in proofs if p.parent.name == "proofs")
+    lemmas = sum(len(re.findall(r"(?m)^(?:pub )?[^\s:]+ :\s(?!goal)", p.read_text())) for p in proofs if p.parent.name == "proofs")
     print(f"8. answers: {answers}; lemmas: {lemmas}; lines of proof: {sum(len(p.read_text().splitlines()) for p in proofs)}")
     print("counts: " + ", ".join(f"{point}: {n}" for point, n in sorted(totals.items())))
 
