@@ -117,6 +117,7 @@ impl CapTable {
     }
 
     /// Frees one place.
+    // kept a demand on the place, here and at `put`, for the reason at `Places::place_mut`
     pub(crate) fn clear(&mut self, place: usize)
         requires { place < length self.old }
         ensures value { self.new ≡ slice_set self.old place None }

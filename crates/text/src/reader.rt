@@ -78,7 +78,7 @@ fn fill(row: &mut [i32], said: &[Option<i32>])
     requires { length row.old ≤ length said.now }
     ensures { row.new ≡ map stock_said (take (length row.old) said.now) }
 {
-    // kept: a `map` of the array made it anew several times over, and `memcpy` a name that the library for C needs
+    // kept: `map` over the array copies it several times, and the library for C then needs `memcpy` from outside
     for (i, stock) in row.iter_mut().enumerate() {
         *stock = said[i].unwrap_or(0);
     }
